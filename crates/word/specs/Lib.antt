@@ -1,0 +1,6 @@
+pub mod Word
+pub mod Sums
+pub mod Shifts
+pub mod Products
+pub mod Extend
+pub mod Flags

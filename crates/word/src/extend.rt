@@ -1,0 +1,74 @@
+// Fields of fewer bits as words, and sums of 24 bits.
+ghost use mathlib.Core.Path.{_≡_};
+ghost use Prim.Native.Nat.{_*_, _<_, _^_};
+ghost use Rattle.word.specs.Extend.{zeroExtend, bySign, signExtend, highHalf, sum24};
+
+// n counted by its sign, in a field that ends at twice half.
+fn by_sign(half: u32, n: u32) -> u32
+    requires { ⌜ (n < 2 * half) × (half < 2 ^ 31) ⌝ }
+    ensures { λ r. ⌜ r ≡ bySign half n ⌝ }
+{
+    if n < half { n } else { !(2 * half - 1 - n) }
+}
+
+pub fn sign5(n: u32) -> u32
+    ensures { λ r. ⌜ r ≡ signExtend 5 n ⌝ }
+{
+    by_sign(16, n % 32)
+}
+
+pub fn sign8(n: u32) -> u32
+    ensures { λ r. ⌜ r ≡ signExtend 8 n ⌝ }
+{
+    by_sign(128, n % 256)
+}
+
+pub fn sign9(n: u32) -> u32
+    ensures { λ r. ⌜ r ≡ signExtend 9 n ⌝ }
+{
+    by_sign(256, n % 512)
+}
+
+pub fn sign16(n: u32) -> u32
+    ensures { λ r. ⌜ r ≡ signExtend 16 n ⌝ }
+{
+    by_sign(32768, n % 65536)
+}
+
+pub fn sign22(n: u32) -> u32
+    ensures { λ r. ⌜ r ≡ signExtend 22 n ⌝ }
+{
+    by_sign(2097152, n % 4194304)
+}
+
+pub fn zero5(n: u32) -> u32
+    ensures { λ r. ⌜ r ≡ zeroExtend 5 n ⌝ }
+{
+    n % 32
+}
+
+pub fn zero8(n: u32) -> u32
+    ensures { λ r. ⌜ r ≡ zeroExtend 8 n ⌝ }
+{
+    n % 256
+}
+
+pub fn zero16(n: u32) -> u32
+    ensures { λ r. ⌜ r ≡ zeroExtend 16 n ⌝ }
+{
+    n % 65536
+}
+
+// The low 16 bits of n as a high half.
+pub fn high_half(n: u32) -> u32
+    ensures { λ r. ⌜ r ≡ highHalf n ⌝ }
+{
+    n % 65536 * 65536
+}
+
+// A sum of addresses: a carry out of bit 23 is dropped.
+pub fn sum24(a: u32, b: u32) -> u32
+    ensures { λ r. ⌜ r ≡ sum24 a b ⌝ }
+{
+    std::num::wrapping_add_u32(a, b) % 16777216
+}
