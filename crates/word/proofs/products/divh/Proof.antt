@@ -40,9 +40,10 @@ signed-half-requires c κs = search needs
 
 div-word-of : tie.Need-div-word-of
 div-word-of c =
-    let s = c .before .before .before .before in
-    (rw (c .signed-half .ensures) (half-divides (s .args .b) (c .before .before .before .if1 .left)),
-     rw (read-word (s .fits .a) (c .before .signed .ensures), read-half (s .args .b) (c .signed-half .ensures)) (fits (c .before .before)))
+    let s = c .before .before .before .before in (
+      rw (c .signed-half .ensures) (half-divides (s .args .b) (c .before .before .before .if1 .left)),
+      rw (read-word (s .fits .a) (c .before .signed .ensures), read-half (s .args .b) (c .signed-half .ensures)) (fits (c .before .before)),
+    )
 
 word-of-requires : tie.Need-word-of-requires
 word-of-requires c κs = search needs
@@ -56,9 +57,14 @@ returns-3 c =
     let j = c .before .before .before .before in
     let s = j .before .before in
     c .computed2 .ensures
-    ∙ rw (ne-eqb _ _ (j .before .if1 .left), c .before .word-of .ensures, toZ-ofZ {w = w32} (div-word-of (c .before .before) .1),
-          read-word (s .fits .a) (c .before .before .before .signed .ensures),
-          read-half (s .args .b) (c .before .before .signed-half .ensures), within _ (fits j) .0)
+    ∙ rw (
+      ne-eqb _ _ (j .before .if1 .left),
+      c .before .word-of .ensures,
+      toZ-ofZ {w = w32} (div-word-of (c .before .before) .1),
+      read-word (s .fits .a) (c .before .before .before .signed .ensures),
+      read-half (s .args .b) (c .before .before .signed-half .ensures),
+      within _ (fits j) .0,
+    )
 
 pub divh-spec : {M : Type 1} → statement M
 divh-spec =

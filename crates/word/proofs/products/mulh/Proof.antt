@@ -27,9 +27,11 @@ returns : tie.Need-returns
 unfolding mulh
 returns c =
     let s = c .before .before .before in
-    rw (toZ-ofZ {w = w32} (mul-word-of (c .before)),
-        read-half (s .args .a) (c .before .before .signed-half .ensures),
-        read-half (s .args .b) (c .before .signed-half2 .ensures))
+    rw (
+      toZ-ofZ {w = w32} (mul-word-of (c .before)),
+      read-half (s .args .a) (c .before .before .signed-half .ensures),
+      read-half (s .args .b) (c .before .signed-half2 .ensures),
+    )
     at (c .word-of .ensures)
 
 pub mulh-spec : {M : Type 1} → statement M

@@ -30,8 +30,11 @@ unfolding sar
 returns c =
     let s = c .before .before .before in
     c .computed .ensures
-    ∙ rw (c .before .out-right .ensures, c .before .before .word-of .ensures,
-          read-shifted (s .before .fits .a) (s .signed .ensures) (2 ^ (s .before .args .n % 32)))
+    ∙ rw (
+      c .before .out-right .ensures,
+      c .before .before .word-of .ensures,
+      read-shifted (s .before .fits .a) (s .signed .ensures) (2 ^ (s .before .args .n % 32)),
+    )
 
 pub sar-spec : {M : Type 1} → statement M
 sar-spec =

@@ -31,9 +31,11 @@ overflow-requires c κs = search needs
 returns : tie.Need-returns
 returns c =
     let s = c .before .before .before in
-    rw (toZ-ofZ {w = w64} (sub-overflow (c .before)),
-        read-wide (s .fits .a) (c .before .before .signed .ensures),
-        read-wide (s .fits .b) (c .before .signed2 .ensures))
+    rw (
+      toZ-ofZ {w = w64} (sub-overflow (c .before)),
+      read-wide (s .fits .a) (c .before .before .signed .ensures),
+      read-wide (s .fits .b) (c .before .signed2 .ensures),
+    )
     at (c .overflow .ensures)
 
 pub difference-overflow-spec : {M : Type 1} → statement M
