@@ -12,14 +12,6 @@ static uint32_t address_of(const struct machine *m, const struct second_insn *i,
     return sum & ADDRESS_MASK & ~(size - 1u);
 }
 
-/* Fault 68: the place is the address before its low bits are cleared. */
-static uint32_t place_of(const struct machine *m, const struct second_insn *i,
-                         uint32_t base, uint32_t address)
-{
-    if (FAULT_IS(68)) return (m->r[base] + (uint32_t)i->value) & ADDRESS_MASK;
-    return address;
-}
-
 /* Bytes and halfwords are sign-extended (000 pp. 64, 89). */
 static uint32_t extended(uint32_t value, uint32_t size)
 {
@@ -29,15 +21,16 @@ static uint32_t extended(uint32_t value, uint32_t size)
 }
 
 /* Also to r0 a load asks for its right. */
-uint32_t load(struct machine *m, const struct second_insn *i, uint32_t base,
-              uint32_t size)
+uint32_t second_load(struct machine *m, const struct second_insn *i,
+                     uint32_t base, uint32_t size)
 {
     const uint32_t address = address_of(m, i, base, size);
     uint32_t value = 0, mark = 0;
     if (reg_mark(m, base)) return leak(m, SECOND_LEAK_LOAD);
     const struct region *g = find(m, address, size, RIGHT_READ);
     if (FAULT_IS(70) && i->reg2 == 0) return SECOND_DONE; /* fault: r0 needs no right */
-    if (g == NULL) return refuse(m, SECOND_NOREAD, place_of(m, i, base, address));
+    if (FAULT_IS(68) && g == NULL) return refuse(m, SECOND_NOREAD, address_of(m, i, base, 1)); /* fault: low bits */
+    if (g == NULL) return refuse(m, SECOND_NOREAD, address);
     const size_t at = offset_in(g, address);
     for (uint32_t k = 0; k < size; k++) {
         value |= (uint32_t)m->memory[at + k] << (8u * k);
@@ -49,14 +42,14 @@ uint32_t load(struct machine *m, const struct second_insn *i, uint32_t base,
 }
 
 /* A store writes the register's mark, 0 or 1, to each byte. */
-uint32_t store(struct machine *m, const struct second_insn *i, uint32_t base,
-               uint32_t size)
+uint32_t second_store(struct machine *m, const struct second_insn *i,
+                      uint32_t base, uint32_t size)
 {
     const uint32_t address = address_of(m, i, base, size);
     const uint32_t value = m->r[i->reg2], mark = reg_mark(m, i->reg2);
     if (reg_mark(m, base)) return leak(m, SECOND_LEAK_STORE);
     const struct region *g = find(m, address, size, RIGHT_WRITE);
-    if (g == NULL) return refuse(m, SECOND_NOWRITE, place_of(m, i, base, address));
+    if (g == NULL) return refuse(m, SECOND_NOWRITE, address);
     const size_t at = offset_in(g, address);
     for (uint32_t k = 0; k < size; k++) {
         m->memory[at + k] = (uint8_t)(value >> (8u * k));
@@ -78,7 +71,7 @@ static uint8_t changed(enum second_op op, uint8_t byte, uint8_t mask)
  * SET1, NOT1, CLR1 read and write, TST1 reads. Z tells of the old bit and
  * takes the byte's mark; the mark byte stays exactly as it was.
  */
-uint32_t bit(struct machine *m, const struct second_insn *i)
+uint32_t second_bit(struct machine *m, const struct second_insn *i)
 {
     const uint32_t address = address_of(m, i, i->reg1, 1);
     const bool writes = i->op != SECOND_OP_TST1 || FAULT_IS(75); /* fault: TST1 asks for writing */
@@ -92,7 +85,8 @@ uint32_t bit(struct machine *m, const struct second_insn *i)
     if (writes && !writable) return refuse(m, SECOND_NOWRITE, address);
     const size_t at = offset_in(g, address);
     const bool old = (m->memory[at] & mask) != 0;
-    set_flags(m, PSW_Z, 0, old ? 0 : PSW_Z, FAULT_IS(78) ? m->psw_marks & PSW_Z : byte_mark(m, at)); /* fault: Z keeps its mark */
+    const uint32_t mark = FAULT_IS(78) ? m->psw_marks & PSW_Z : byte_mark(m, at); /* fault: Z keeps its mark */
+    set_flags(m, PSW_Z, 0, old ? 0 : PSW_Z, mark);
     if (i->op == SECOND_OP_TST1) return SECOND_DONE;
     m->memory[at] = changed(i->op, m->memory[at], mask);
     if (FAULT_IS(79)) m->marks[at] = (uint8_t)byte_mark(m, at); /* fault: writes the mark byte as 0 or 1 */

@@ -62,8 +62,7 @@ static inline struct result alu_saturate(struct result exact, uint32_t left)
     r.value = (left & TOP_BIT) ? TOP_BIT : 0x7FFFFFFFu;
     if (FAULT_IS(4) && !(left & TOP_BIT)) r.value = 0x7FFFFFFu; /* fault: seven digits */
     r.flags = (exact.flags & (PSW_CY | PSW_OV)) | PSW_SAT;
-    if (FAULT_IS(5)) return r.flags |= sign_zero(exact.value), r; /* fault: S, Z before saturation */
-    r.flags |= sign_zero(r.value);
+    r.flags |= sign_zero(FAULT_IS(5) ? exact.value : r.value); /* fault: S, Z before saturation */
     return r;
 }
 

@@ -17,7 +17,7 @@ static uint32_t get_word(const uint8_t *at)
            (uint32_t)at[3] << 24;
 }
 
-void put_word(uint8_t *at, uint32_t word)
+void second_put_word(uint8_t *at, uint32_t word)
 {
     for (unsigned k = 0; k < 4; k++) at[k] = (uint8_t)(word >> (8u * k));
 }
@@ -33,7 +33,7 @@ static void take_regions(struct machine *m, const uint8_t *block)
     }
 }
 
-void machine_take(struct machine *m, const uint8_t *block)
+void second_take(struct machine *m, const uint8_t *block)
 {
     for (int n = 0; n < 32; n++) m->r[n] = get_word(block + 4 * n);
     m->pc = get_word(block + AT_PC);
@@ -56,20 +56,20 @@ void machine_take(struct machine *m, const uint8_t *block)
 }
 
 /* Filler and map never change, so they are not written. */
-void machine_put(const struct machine *m, uint8_t *block)
+void second_put(const struct machine *m, uint8_t *block)
 {
-    for (int n = 0; n < 32; n++) put_word(block + 4 * n, m->r[n]);
-    put_word(block + AT_PC, m->pc);
-    put_word(block + AT_PSW, m->psw);
-    put_word(block + AT_EIPC, m->eipc);
-    put_word(block + AT_EIPSW, m->eipsw);
-    put_word(block + AT_FEPC, m->fepc);
-    put_word(block + AT_FEPSW, m->fepsw);
-    put_word(block + AT_ECR, m->ecr);
-    put_word(block + AT_CODE, m->code);
+    for (int n = 0; n < 32; n++) second_put_word(block + 4 * n, m->r[n]);
+    second_put_word(block + AT_PC, m->pc);
+    second_put_word(block + AT_PSW, m->psw);
+    second_put_word(block + AT_EIPC, m->eipc);
+    second_put_word(block + AT_EIPSW, m->eipsw);
+    second_put_word(block + AT_FEPC, m->fepc);
+    second_put_word(block + AT_FEPSW, m->fepsw);
+    second_put_word(block + AT_ECR, m->ecr);
+    second_put_word(block + AT_CODE, m->code);
     block[AT_HALTED] = (uint8_t)m->halted;
     block[AT_NMI] = (uint8_t)m->nmi;
-    put_word(block + AT_REG_MARKS, m->reg_marks);
+    second_put_word(block + AT_REG_MARKS, m->reg_marks);
     block[AT_PSW_MARKS] = (uint8_t)m->psw_marks;
     block[AT_EIPSW_MARKS] = (uint8_t)m->eipsw_marks;
     block[AT_FEPSW_MARKS] = (uint8_t)m->fepsw_marks;
@@ -85,7 +85,7 @@ static bool code_good(uint32_t code)
 }
 
 /* STATE of 01, one line per test; the faults leave one test out. */
-bool machine_state_good(const struct machine *m)
+bool second_state_good(const struct machine *m)
 {
     if (m->r[0] != 0) return false;
     if (reg_mark(m, 0) && !FAULT_IS(24)) return false;
@@ -123,7 +123,7 @@ uint32_t second_reset(uint8_t *block, size_t block_len)
     if (FAULT_IS(40)) end = block_len; /* fault: the map goes too */
     for (size_t at = 0; at < end; at++)
         if (!left_out(at)) block[at] = 0;
-    put_word(block + AT_PSW, PSW_ID);
-    if (FAULT_IS(41)) put_word(block + AT_PSW, 0); /* fault: ID is 0 */
+    second_put_word(block + AT_PSW, PSW_ID);
+    if (FAULT_IS(41)) second_put_word(block + AT_PSW, 0); /* fault: ID is 0 */
     return SECOND_DONE;
 }

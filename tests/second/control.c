@@ -20,7 +20,7 @@ static bool low_condition(uint32_t condition, uint32_t psw)
 }
 
 /* 8 to 15 negate 0 to 7, except that 13 is SAT. */
-bool condition_holds(uint32_t condition, uint32_t psw)
+bool second_condition_holds(uint32_t condition, uint32_t psw)
 {
     if (FAULT_IS(46) && condition == 13) return false; /* fault: 13 negates 5 */
     if (condition == 13) return (psw & PSW_SAT) != 0;
@@ -28,7 +28,7 @@ bool condition_holds(uint32_t condition, uint32_t psw)
 }
 
 /* The flags in the condition's formula, whatever their values. */
-uint32_t condition_reads(uint32_t condition, uint32_t psw)
+uint32_t second_condition_reads(uint32_t condition, uint32_t psw)
 {
     static const uint32_t reads[8] = {
         PSW_OV, PSW_CY, PSW_Z, PSW_CY | PSW_Z,
@@ -64,7 +64,7 @@ static void set_fecc(struct machine *m, uint32_t code)
     else m->ecr = (m->ecr & 0xFFFFu) | code << 16;
 }
 
-void accept_nmi(struct machine *m)
+uint32_t second_accept_nmi(struct machine *m)
 {
     m->fepc = m->pc;
     m->fepsw = m->psw;
@@ -79,9 +79,10 @@ void accept_nmi(struct machine *m)
     if (FAULT_IS(53)) m->code = 0; /* fault: the other request goes too */
     if (!FAULT_IS(54)) m->halted = 0; /* fault: HALT goes on */
     if (second_stats != NULL) second_stats->nmi++;
+    return SECOND_DONE;
 }
 
-void accept_maskable(struct machine *m)
+uint32_t second_accept_maskable(struct machine *m)
 {
     save_ei(m, m->pc);
     set_eicc(m, m->code);
@@ -90,6 +91,7 @@ void accept_maskable(struct machine *m)
     m->code = 0;
     m->halted = 0;
     if (second_stats != NULL) second_stats->maskable++;
+    return SECOND_DONE;
 }
 
 /*
@@ -97,7 +99,7 @@ void accept_maskable(struct machine *m)
  * 6.2.2 (4), sets NP at an illegal code. The handler's address is the code
  * without its last digit.
  */
-void exception(struct machine *m, uint32_t restore, uint32_t code)
+void second_exception(struct machine *m, uint32_t restore, uint32_t code)
 {
     save_ei(m, restore);
     set_eicc(m, code);
@@ -108,7 +110,7 @@ void exception(struct machine *m, uint32_t restore, uint32_t code)
 }
 
 /* FEPC and FEPSW when EP = 0 and NP = 1, else EIPC and EIPSW. */
-uint32_t reti(struct machine *m, uint32_t *target)
+uint32_t second_reti(struct machine *m, uint32_t *target)
 {
     bool fe = (m->psw & (PSW_EP | PSW_NP)) == PSW_NP;
     if (FAULT_IS(57)) fe = (m->psw & PSW_NP) != 0; /* fault: EP not looked at */
@@ -129,7 +131,7 @@ uint32_t reti(struct machine *m, uint32_t *target)
 /* ---- LDSR and STSR (000 pp. 66, 95) ----------------------------------- */
 
 /* LDSR marks the whole target or clears it; to PSW a mark is a LEAK. */
-uint32_t ldsr(struct machine *m, uint32_t number, uint32_t reg)
+uint32_t second_ldsr(struct machine *m, uint32_t number, uint32_t reg)
 {
     const uint32_t value = m->r[reg], mark = reg_mark(m, reg);
     const uint32_t all = mark ? 0xFFu : 0u;
@@ -164,7 +166,7 @@ uint32_t ldsr(struct machine *m, uint32_t number, uint32_t reg)
 }
 
 /* Marked exactly if any bit is; ECR never. */
-void stsr(struct machine *m, uint32_t number, uint32_t reg)
+void second_stsr(struct machine *m, uint32_t number, uint32_t reg)
 {
     uint32_t value = m->psw, marks = m->psw_marks;
     switch (number) {

@@ -123,7 +123,10 @@ static struct second_decoded bit_access(uint32_t h1, uint32_t h2)
 static struct second_decoded load_system(uint32_t h1)
 {
     uint32_t number = high_field(h1), reg = low_field(h1);
-    if (FAULT_IS(120)) number = low_field(h1), reg = high_field(h1); /* fault: like STSR */
+    if (FAULT_IS(120)) { /* fault: fields like STSR's */
+        number = low_field(h1);
+        reg = high_field(h1);
+    }
     if (number > 5 || (number == 4 && !FAULT_IS(121))) return undefined(2); /* fault: takes ECR's number */
     return make(2, SECOND_OP_LDSR, 0, reg, 0, number);
 }

@@ -51,6 +51,13 @@ static void not_reg(struct machine *m, const struct second_insn *i, uint32_t mar
     if (FAULT_IS(86)) m->psw |= ov; /* fault: OV stays */
 }
 
+/* A register with itself is marked like any other. */
+static void xor_reg(struct machine *m, const struct second_insn *i, uint32_t mark)
+{
+    if (FAULT_IS(96) && i->reg1 == i->reg2) mark = 0; /* fault: XOR r, r is unmarked */
+    logic(m, i->reg2, m->r[i->reg2] ^ m->r[i->reg1], mark);
+}
+
 /* 000 p. 52 lists S as 0, so it is a constant here. */
 static void andi(struct machine *m, const struct second_insn *i, uint32_t mark)
 {
@@ -90,9 +97,9 @@ static void divh(struct machine *m, uint32_t reg, uint32_t b, uint32_t mark)
 
 static void setf(struct machine *m, const struct second_insn *i)
 {
-    uint32_t marks = m->psw_marks & condition_reads(i->number, m->psw);
+    uint32_t marks = m->psw_marks & second_condition_reads(i->number, m->psw);
     if (FAULT_IS(91)) marks = 0; /* fault: the result is never marked */
-    set_reg(m, i->reg2, condition_holds(i->number, m->psw), marks != 0);
+    set_reg(m, i->reg2, second_condition_holds(i->number, m->psw), marks != 0);
 }
 
 /* The displacement counts from the instruction's own address. */
@@ -100,10 +107,10 @@ static uint32_t bcond(struct machine *m, const struct second_insn *i,
                       uint32_t *target)
 {
     uint32_t from = m->pc;
-    if (m->psw_marks & condition_reads(i->number, m->psw))
+    if (m->psw_marks & second_condition_reads(i->number, m->psw))
         return leak(m, SECOND_LEAK_BCOND);
     if (FAULT_IS(92)) from = *target; /* fault: counts from the next address */
-    if (condition_holds(i->number, m->psw))
+    if (second_condition_holds(i->number, m->psw))
         *target = (from + (uint32_t)i->value) & ADDRESS_MASK;
     return SECOND_DONE;
 }
@@ -126,7 +133,8 @@ static uint32_t jmp(struct machine *m, const struct second_insn *i,
 }
 
 /* PC is set last, so a refused step leaves it. */
-uint32_t execute(struct machine *m, const struct second_insn *i, uint32_t next)
+uint32_t second_execute(struct machine *m, const struct second_insn *i,
+                        uint32_t next)
 {
     const uint32_t a = m->r[i->reg1], b = m->r[i->reg2], d = i->reg2;
     const uint32_t ma = reg_mark(m, i->reg1), mb = reg_mark(m, d);
@@ -162,10 +170,10 @@ uint32_t execute(struct machine *m, const struct second_insn *i, uint32_t next)
     case SECOND_OP_SATSUBR: saturated(m, d, alu_sub(a, b), a, mab); break;
     case SECOND_OP_SATSUBI: saturated(m, d, alu_sub(a, imm), a, ma); break;
 
-    /* Logic. XOR of a register with itself is marked like any other. */
+    /* Logic. */
     case SECOND_OP_NOT: not_reg(m, i, ma); break;
     case SECOND_OP_OR: logic(m, d, b | a, mab); break;
-    case SECOND_OP_XOR: logic(m, d, b ^ a, FAULT_IS(96) && d == i->reg1 ? 0 : mab); break; /* fault: XOR r, r unmarked */
+    case SECOND_OP_XOR: xor_reg(m, i, mab); break;
     case SECOND_OP_AND: logic(m, d, b & a, mab); break;
     case SECOND_OP_TST: logic_flags(m, b & a, mab); break;
     case SECOND_OP_ORI: logic(m, d, a | imm, ma); break;
@@ -181,31 +189,31 @@ uint32_t execute(struct machine *m, const struct second_insn *i, uint32_t next)
     case SECOND_OP_SHL_IMM5: shift(m, d, alu_shl(b, imm), imm, mb); break;
 
     /* Memory. */
-    case SECOND_OP_SLD_B: answer = load(m, i, ep, 1); break;
-    case SECOND_OP_SLD_H: answer = load(m, i, ep, 2); break;
-    case SECOND_OP_SLD_W: answer = load(m, i, ep, 4); break;
-    case SECOND_OP_LD_B: answer = load(m, i, i->reg1, 1); break;
-    case SECOND_OP_LD_H: answer = load(m, i, i->reg1, 2); break;
-    case SECOND_OP_LD_W: answer = load(m, i, i->reg1, 4); break;
-    case SECOND_OP_SST_B: answer = store(m, i, ep, 1); break;
-    case SECOND_OP_SST_H: answer = store(m, i, ep, 2); break;
-    case SECOND_OP_SST_W: answer = store(m, i, ep, 4); break;
-    case SECOND_OP_ST_B: answer = store(m, i, i->reg1, 1); break;
-    case SECOND_OP_ST_H: answer = store(m, i, i->reg1, 2); break;
-    case SECOND_OP_ST_W: answer = store(m, i, i->reg1, 4); break;
+    case SECOND_OP_SLD_B: answer = second_load(m, i, ep, 1); break;
+    case SECOND_OP_SLD_H: answer = second_load(m, i, ep, 2); break;
+    case SECOND_OP_SLD_W: answer = second_load(m, i, ep, 4); break;
+    case SECOND_OP_LD_B: answer = second_load(m, i, i->reg1, 1); break;
+    case SECOND_OP_LD_H: answer = second_load(m, i, i->reg1, 2); break;
+    case SECOND_OP_LD_W: answer = second_load(m, i, i->reg1, 4); break;
+    case SECOND_OP_SST_B: answer = second_store(m, i, ep, 1); break;
+    case SECOND_OP_SST_H: answer = second_store(m, i, ep, 2); break;
+    case SECOND_OP_SST_W: answer = second_store(m, i, ep, 4); break;
+    case SECOND_OP_ST_B: answer = second_store(m, i, i->reg1, 1); break;
+    case SECOND_OP_ST_H: answer = second_store(m, i, i->reg1, 2); break;
+    case SECOND_OP_ST_W: answer = second_store(m, i, i->reg1, 4); break;
     case SECOND_OP_SET1:
     case SECOND_OP_NOT1:
     case SECOND_OP_CLR1:
-    case SECOND_OP_TST1: answer = bit(m, i); break;
+    case SECOND_OP_TST1: answer = second_bit(m, i); break;
 
     /* Control. */
     case SECOND_OP_JMP: answer = jmp(m, i, &next); break;
     case SECOND_OP_JARL: jarl(m, i, &next); break;
     case SECOND_OP_BCOND: answer = bcond(m, i, &next); break;
-    case SECOND_OP_LDSR: answer = ldsr(m, i->number, d); break;
-    case SECOND_OP_STSR: stsr(m, i->number, d); break;
-    case SECOND_OP_TRAP: exception(m, next, 0x40 + i->number); next = m->pc; break;
-    case SECOND_OP_RETI: answer = reti(m, &next); break;
+    case SECOND_OP_LDSR: answer = second_ldsr(m, i->number, d); break;
+    case SECOND_OP_STSR: second_stsr(m, i->number, d); break;
+    case SECOND_OP_TRAP: second_exception(m, next, 0x40 + i->number); next = m->pc; break;
+    case SECOND_OP_RETI: answer = second_reti(m, &next); break;
     case SECOND_OP_DI: m->psw |= PSW_ID; break;
     case SECOND_OP_EI: m->psw &= ~PSW_ID; break;
     case SECOND_OP_HALT:

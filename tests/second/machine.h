@@ -45,37 +45,40 @@ struct machine {
     uint32_t place; /* goes into the report */
 };
 
+/* ---- Between the files; all outer names have the same prefix ---------- */
+
 /* block.c */
-void machine_take(struct machine *m, const uint8_t *block);
-void machine_put(const struct machine *m, uint8_t *block);
-bool machine_state_good(const struct machine *m);
-void put_word(uint8_t *at, uint32_t word);
+void second_take(struct machine *m, const uint8_t *block);
+void second_put(const struct machine *m, uint8_t *block);
+bool second_state_good(const struct machine *m);
+void second_put_word(uint8_t *at, uint32_t word);
 
 /* map.c */
-bool map_good(const struct region region[4], size_t memory_len);
+bool second_map_good(const struct region region[4], size_t memory_len);
 
 /* control.c */
-bool condition_holds(uint32_t condition, uint32_t psw);
-uint32_t condition_reads(uint32_t condition, uint32_t psw);
-void accept_nmi(struct machine *m);
-void accept_maskable(struct machine *m);
-void exception(struct machine *m, uint32_t restore, uint32_t code);
-uint32_t ldsr(struct machine *m, uint32_t number, uint32_t reg);
-void stsr(struct machine *m, uint32_t number, uint32_t reg);
-uint32_t reti(struct machine *m, uint32_t *target);
+bool second_condition_holds(uint32_t condition, uint32_t psw);
+uint32_t second_condition_reads(uint32_t condition, uint32_t psw);
+uint32_t second_accept_nmi(struct machine *m);
+uint32_t second_accept_maskable(struct machine *m);
+void second_exception(struct machine *m, uint32_t restore, uint32_t code);
+uint32_t second_ldsr(struct machine *m, uint32_t number, uint32_t reg);
+void second_stsr(struct machine *m, uint32_t number, uint32_t reg);
+uint32_t second_reti(struct machine *m, uint32_t *target);
 
 /* access.c */
-uint32_t load(struct machine *m, const struct second_insn *i, uint32_t base,
-              uint32_t size);
-uint32_t store(struct machine *m, const struct second_insn *i, uint32_t base,
-               uint32_t size);
-uint32_t bit(struct machine *m, const struct second_insn *i);
+uint32_t second_load(struct machine *m, const struct second_insn *i,
+                     uint32_t base, uint32_t size);
+uint32_t second_store(struct machine *m, const struct second_insn *i,
+                      uint32_t base, uint32_t size);
+uint32_t second_bit(struct machine *m, const struct second_insn *i);
 
 /* execute.c: next is the address behind the instruction. */
-uint32_t execute(struct machine *m, const struct second_insn *i, uint32_t next);
+uint32_t second_execute(struct machine *m, const struct second_insn *i,
+                        uint32_t next);
 
 /* step.c: DONE if a step was taken, else why not; then nothing has changed. */
-uint32_t step(struct machine *m);
+uint32_t second_step(struct machine *m);
 
 /* ---- Requests: 01, "Requests" ----------------------------------------- */
 

@@ -36,7 +36,7 @@ static bool regions_apart(const struct region *a, const struct region *b)
             FAULT_IS(21)); /* fault: offsets may overlap */
 }
 
-bool map_good(const struct region region[4], size_t memory_len)
+bool second_map_good(const struct region region[4], size_t memory_len)
 {
     for (int k = 0; k < 4; k++) {
         if (!region_good(&region[k], memory_len)) return false;

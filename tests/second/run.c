@@ -6,16 +6,24 @@ struct second_stats *second_stats = NULL;
 static uint32_t write_report(uint8_t *report, uint32_t answer, uint32_t steps,
                              uint32_t place)
 {
-    put_word(report, steps);
-    put_word(report + 4, place);
+    second_put_word(report, steps);
+    second_put_word(report + 4, place);
     return answer;
+}
+
+/* MAP, then STATE. */
+static uint32_t first_look(const struct machine *m, size_t memory_len)
+{
+    if (FAULT_IS(36) && !second_state_good(m)) return SECOND_STATE; /* fault: STATE before MAP */
+    if (!second_map_good(m->region, memory_len)) return SECOND_MAP;
+    return second_state_good(m) ? SECOND_DONE : SECOND_STATE;
 }
 
 /* The budget is looked at before every step. */
 static uint32_t take_steps(struct machine *m, uint32_t budget, uint32_t *steps)
 {
     for (*steps = 0; *steps < budget; ++*steps) {
-        const uint32_t answer = step(m);
+        const uint32_t answer = second_step(m);
         if (FAULT_IS(32) && answer > SECOND_ASLEEP) ++*steps; /* fault: a refused step counts */
         if (answer != SECOND_DONE) return answer;
     }
@@ -38,16 +46,15 @@ uint32_t second_run(uint8_t *block, size_t block_len,
         memory_len > SECOND_MEMORY_MAX || marks_len != memory_len)
         return SECOND_SIZE;
 
-    machine_take(&m, block);
+    second_take(&m, block);
     m.memory = memory;
     m.marks = marks;
-    if (FAULT_IS(36) && !machine_state_good(&m)) return write_report(report, SECOND_STATE, 0, 0); /* fault: STATE before MAP */
-    if (FAULT_IS(37) && !map_good(m.region, memory_len)) return SECOND_MAP; /* fault: no report */
-    if (!map_good(m.region, memory_len)) return write_report(report, SECOND_MAP, 0, 0);
-    if (!machine_state_good(&m)) return write_report(report, SECOND_STATE, 0, 0);
+    answer = first_look(&m, memory_len);
+    if (FAULT_IS(37) && answer != SECOND_DONE) return answer; /* fault: no report */
+    if (answer != SECOND_DONE) return write_report(report, answer, 0, 0);
 
     answer = take_steps(&m, budget, &steps);
-    machine_put(&m, block);
+    second_put(&m, block);
     return write_report(report, answer, steps, m.place);
 }
 
@@ -59,11 +66,11 @@ struct second_part second_region(const uint8_t *block, size_t block_len,
     struct machine m;
     if (k > 3 || block_len != SECOND_BLOCK_LEN || memory_len > SECOND_MEMORY_MAX)
         return part;
-    machine_take(&m, block);
+    second_take(&m, block);
     for (uint32_t j = 0; FAULT_IS(42) && j < 4; j++)
         if (j != k) m.region[j].length = 0; /* fault: looks at region k alone */
-    if (FAULT_IS(43) && !machine_state_good(&m)) return part; /* fault: asks for STATE */
-    if (!map_good(m.region, memory_len)) return part;
+    if (FAULT_IS(43) && !second_state_good(&m)) return part; /* fault: asks for STATE */
+    if (!second_map_good(m.region, memory_len)) return part;
     if (m.region[k].length == 0) return part;
     part.offset = m.region[k].offset;
     part.length = m.region[k].length;

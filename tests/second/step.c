@@ -16,7 +16,7 @@ static uint32_t fetch(struct machine *m, uint32_t address,
 }
 
 /* PC = FFFFFEH has its second halfword at 000000H. */
-static uint32_t second_address(const struct machine *m)
+static uint32_t behind_first(const struct machine *m)
 {
     if (FAULT_IS(100)) return m->pc + 2; /* fault: sought at 1000000H */
     return (m->pc + 2) & ADDRESS_MASK;
@@ -25,7 +25,7 @@ static uint32_t second_address(const struct machine *m)
 /* The second halfword may lie in another region than the first. */
 static uint32_t fetch_second(struct machine *m, uint16_t first, uint16_t *second)
 {
-    const uint32_t address = second_address(m);
+    const uint32_t address = behind_first(m);
     const uint32_t answer = fetch(m, address, SECOND_LEAK_SECOND, second);
     if (FAULT_IS(101) && answer == SECOND_DONE &&
         find(m, m->pc, 2, RIGHT_FETCH) != find(m, address, 2, RIGHT_FETCH))
@@ -42,10 +42,10 @@ static uint32_t perform(struct machine *m, const struct second_decoded *d)
 {
     uint32_t next = (m->pc + 2 * d->halfwords) & ADDRESS_MASK;
     if (FAULT_IS(105)) next = m->pc + 2 * d->halfwords; /* fault: carry kept */
-    if (d->kind == SECOND_IS_INSTRUCTION) return execute(m, &d->insn, next);
+    if (d->kind == SECOND_IS_INSTRUCTION) return second_execute(m, &d->insn, next);
     if (d->kind == SECOND_IS_UNDEFINED) return refuse(m, SECOND_UNDEFINED, m->pc);
     if (FAULT_IS(106)) next = m->pc; /* fault: saves the code's own address */
-    exception(m, next, 0x60);
+    second_exception(m, next, 0x60);
     if (second_stats != NULL) second_stats->illegal++;
     return SECOND_DONE;
 }
@@ -55,8 +55,8 @@ static uint32_t instruction(struct machine *m)
 {
     uint16_t first = 0, second = 0;
     uint32_t answer = fetch(m, m->pc, SECOND_LEAK_FIRST, &first);
-    if (FAULT_IS(107) && answer == SECOND_LEAK && find(m, second_address(m), 2, RIGHT_FETCH) == NULL)
-        return refuse(m, SECOND_NOFETCH, second_address(m)); /* fault: second NOFETCH before first LEAK */
+    if (FAULT_IS(107) && answer == SECOND_LEAK && find(m, behind_first(m), 2, RIGHT_FETCH) == NULL)
+        return refuse(m, SECOND_NOFETCH, behind_first(m)); /* fault: second NOFETCH before first LEAK */
     if (answer != SECOND_DONE) return answer;
     if (second_needs_second(first) || FAULT_IS(108)) { /* fault: always fetches four bytes */
         answer = fetch_second(m, first, &second);
@@ -67,17 +67,12 @@ static uint32_t instruction(struct machine *m)
 }
 
 /* An NMI before a maskable code; accepting is a step of its own. */
-uint32_t step(struct machine *m)
+uint32_t second_step(struct machine *m)
 {
-    if (FAULT_IS(109) && maskable_acceptable(m)) return accept_maskable(m), 0u; /* fault: maskable first */
-    if (nmi_acceptable(m)) {
-        accept_nmi(m);
-        return FAULT_IS(110) ? step(m) : SECOND_DONE; /* fault: not counted as a step */
-    }
-    if (maskable_acceptable(m)) {
-        accept_maskable(m);
-        return SECOND_DONE;
-    }
+    if (FAULT_IS(109) && maskable_acceptable(m)) return second_accept_maskable(m); /* fault: maskable first */
+    if (FAULT_IS(110) && nmi_acceptable(m)) (void)second_accept_nmi(m); /* fault: goes on in the same step */
+    if (nmi_acceptable(m)) return second_accept_nmi(m);
+    if (maskable_acceptable(m)) return second_accept_maskable(m);
     if (m->halted) return refuse(m, SECOND_ASLEEP, 0);
     return instruction(m);
 }
