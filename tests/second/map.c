@@ -8,11 +8,11 @@ static bool used(const struct region *g)
 
 static bool region_good(const struct region *g, size_t memory_len)
 {
-    const uint64_t end = (uint64_t)g->base + g->length;
-    uint64_t offset_end = (uint64_t)g->offset + g->length;
+    uint64_t end = (uint64_t)g->base + g->length;
+    const uint64_t offset_end = (uint64_t)g->offset + g->length;
     if (FAULT_IS(14) && !used(g)) return true; /* fault: unused fields not tested */
     if (!used(g)) return g->base == 0 && g->offset == 0 && g->rights == 0;
-    if (FAULT_IS(15)) offset_end &= UINT32_MAX; /* fault: sum in 32 bits */
+    if (FAULT_IS(15)) end &= UINT32_MAX; /* fault: sum in 32 bits */
     if (FAULT_IS(16) && g->rights == 0) return false; /* fault: no rights is bad */
     if (FAULT_IS(17) && g->offset % 4 != 0) return false; /* fault: aligned offsets */
     if (FAULT_IS(18) && end == 0x1000000u) return false; /* fault: 2^24 is too much */

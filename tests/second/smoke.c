@@ -221,6 +221,14 @@ static void secrets_stay(uint32_t budget, uint32_t answer)
     check("the same public state with other secrets", unmarked_same(&t, &other));
 }
 
+/* FNV-1a over all that a run may write. */
+static uint64_t fold(uint64_t digest)
+{
+    const uint8_t *bytes = (const uint8_t *)&t;
+    for (size_t k = 0; k < sizeof t; k++) digest = (digest ^ bytes[k]) * 0x100000001B3u;
+    return digest;
+}
+
 static uint64_t counted(const struct second_stats *s)
 {
     uint64_t sum = s->nmi + s->maskable + s->illegal;
@@ -259,7 +267,7 @@ int main(int argc, char **argv)
         check("as many steps", one_by_one(budget, answer) == report_word(&t, 0));
         shape();
         secrets_stay(budget, answer);
-        for (size_t k = 0; k < sizeof t.block; k++) digest = (digest ^ t.block[k]) * 0x100000001B3u;
+        digest = (fold(digest) ^ answer) * 0x100000001B3u;
     }
     check("statistics count every step", counted(&stats) == steps);
     print_stats(&stats, answers);
