@@ -133,10 +133,36 @@ static void budgets(void)
     expect("NMI, RETI, maskable, ADD", word(B_PC), 0x102);
 }
 
+/* The sample of 01 counted by hand, then one NMI and one LEAK. */
+static void statistics(void)
+{
+    static struct second_stats s;
+    fresh();
+    code(0x100, 0x5205, 0x525F); /* MOV 5, r10; ADD -1, r10; BNZ -2; HALT */
+    code(0x104, 0xFDFA, 0x07E0);
+    code(0x108, 0x0120, 0);
+    code(0x10, H(0, 0x03, 1), 0); /* JMP [r1] */
+    set_word(B_REG_MARKS, 2);
+    second_stats = &s;
+    expect("sample", run(12), SECOND_DONE);
+    t.block[B_NMI] = 1;
+    expect("NMI, then LEAK", run(2), SECOND_LEAK);
+    second_stats = NULL;
+    expect("MOV", (uint32_t)s.executed[SECOND_OP_MOV_IMM5], 1);
+    expect("ADD", (uint32_t)s.executed[SECOND_OP_ADD_IMM5], 5);
+    expect("Bcond", (uint32_t)s.executed[SECOND_OP_BCOND], 5);
+    expect("HALT", (uint32_t)s.executed[SECOND_OP_HALT], 1);
+    expect("JMP is not counted", (uint32_t)s.executed[SECOND_OP_JMP], 0);
+    expect("LEAK by JMP", (uint32_t)s.leak[SECOND_LEAK_JMP], 1);
+    expect("NMI", (uint32_t)s.nmi, 1);
+    expect("no maskable, no illegal code", (uint32_t)(s.maskable + s.illegal), 0);
+}
+
 void test_order(void)
 {
     fetch_edges();
     fetch_order();
     operand_order();
     budgets();
+    statistics();
 }

@@ -94,7 +94,7 @@ static void undefined_and_illegal(void)
     is("RETI at 87E0H", 0x87E0, 0x0140, SECOND_IS_UNDEFINED, 2);
     is("DI at 0FE0H", 0x0FE0, 0x0160, SECOND_IS_UNDEFINED, 2);
     is("EI at 87E1H", 0x87E1, 0x0160, SECOND_IS_UNDEFINED, 2);
-    is("1000H", H(1, 0x3F, 1), 0x8000, SECOND_IS_UNDEFINED, 2);
+    is("8000H", H(1, 0x3F, 1), 0x8000, SECOND_IS_UNDEFINED, 2);
     is("illegal, bits around set", H(31, 0x3F, 31), 0xFFFF, SECOND_IS_ILLEGAL, 2);
     is("illegal 0400H", H(0, 0x3F, 0), 0x0400, SECOND_IS_ILLEGAL, 2);
 }
@@ -240,4 +240,5 @@ void test_words(void)
     number_range(SECOND_OP_LDSR, 5);
     number_range(SECOND_OP_STSR, 5);
     for (int op = 0; op < SECOND_OP_COUNT; op++) register_range((enum second_op)op);
+    expect("no such op", encoded((struct second_insn){SECOND_OP_COUNT, 0, 0, 0, 0}, &(uint32_t){9}), SECOND_FIELD);
 }
