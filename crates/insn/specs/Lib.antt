@@ -1,1 +1,3 @@
 pub mod Coding
+pub mod Within
+pub mod Arms
