@@ -256,7 +256,7 @@ fn bit_op(n: u32) -> BitOp
 }
 
 // System numbers that LDSR takes.
-fn loads(regid: u32) -> bool
+pub fn loads(regid: u32) -> bool
     ensures { λ r. ⌜ r ≡ loads regid ⌝ }
 {
     regid < 4 || regid == 5
