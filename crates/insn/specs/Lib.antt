@@ -1,0 +1,3 @@
+pub mod Coding
+pub mod Within
+pub mod Arms

@@ -1,0 +1,263 @@
+// From halfwords to instructions.
+ghost use mathlib.Core.Path.{_≡_};
+ghost use Prim.Native.Nat.{_<_};
+ghost use lib.Dec.{eqb};
+ghost use Rattle.insn.specs.Coding.{long, bitOp, loads, when, disp7, disp9, disp22, decodeExtended, decodeFields, decode};
+
+use crate::BitOp;
+use crate::Decoded;
+use crate::Imm16Op;
+use crate::Imm5Op;
+use crate::Insn;
+use crate::RegOp;
+use crate::ShiftOp;
+use crate::Size;
+use word::extend;
+
+// A second halfword follows.
+pub fn is_long(first: u16) -> bool
+    ensures { λ r. ⌜ r ≡ long first ⌝ }
+{
+    48 <= first / 32 % 64
+}
+
+// What a first halfword stands for, with the second one if the first is long; else the second is not looked at.
+pub fn decode(first: u16, second: u16) -> Decoded
+    ensures { λ r. ⌜ r ≡ decode first second ⌝ }
+{
+    let h = first as u32;
+    fields(h / 2048, h / 32 % 64, h % 32, second as u32)
+}
+
+// By the opcode.
+fn fields(reg2: u32, opcode: u32, reg1: u32, w: u32) -> Decoded
+    requires { ⌜ (reg2 < 32) × (opcode < 64) × (reg1 < 32) × (w < 65536) ⌝ }
+    ensures { λ r. ⌜ r ≡ decodeFields reg2 opcode reg1 w ⌝ }
+{
+    match opcode {
+        0b000000 => reg(RegOp::Mov, reg1, reg2),
+        0b000001 => reg(RegOp::Not, reg1, reg2),
+        0b000010 => reg(RegOp::Divh, reg1, reg2),
+        0b000011 => {
+            if reg2 == 0 {
+                Decoded::Valid(Insn::Jmp { reg1: reg1 })
+            } else {
+                Decoded::Undefined
+            }
+        }
+        0b000100 => reg(RegOp::Satsubr, reg1, reg2),
+        0b000101 => reg(RegOp::Satsub, reg1, reg2),
+        0b000110 => reg(RegOp::Satadd, reg1, reg2),
+        0b000111 => reg(RegOp::Mulh, reg1, reg2),
+        0b001000 => reg(RegOp::Or, reg1, reg2),
+        0b001001 => reg(RegOp::Xor, reg1, reg2),
+        0b001010 => reg(RegOp::And, reg1, reg2),
+        0b001011 => reg(RegOp::Tst, reg1, reg2),
+        0b001100 => reg(RegOp::Subr, reg1, reg2),
+        0b001101 => reg(RegOp::Sub, reg1, reg2),
+        0b001110 => reg(RegOp::Add, reg1, reg2),
+        0b001111 => reg(RegOp::Cmp, reg1, reg2),
+        0b010000 => imm5(Imm5Op::Mov5, extend::sign5(reg1), reg2),
+        0b010001 => imm5(Imm5Op::Satadd5, extend::sign5(reg1), reg2),
+        0b010010 => imm5(Imm5Op::Add5, extend::sign5(reg1), reg2),
+        0b010011 => imm5(Imm5Op::Cmp5, extend::sign5(reg1), reg2),
+        0b010100 => imm5(Imm5Op::Shr5, extend::zero5(reg1), reg2),
+        0b010101 => imm5(Imm5Op::Sar5, extend::zero5(reg1), reg2),
+        0b010110 => imm5(Imm5Op::Shl5, extend::zero5(reg1), reg2),
+        0b010111 => imm5(Imm5Op::Mulh5, extend::sign5(reg1), reg2),
+        0b011000..=0b011011 => sld(Size::Byte, disp7(opcode, reg1), reg2),
+        0b011100..=0b011111 => sst(Size::Byte, disp7(opcode, reg1), reg2),
+        0b100000..=0b100011 => sld(Size::Half, disp7(opcode, reg1) * 2, reg2),
+        0b100100..=0b100111 => sst(Size::Half, disp7(opcode, reg1) * 2, reg2),
+        0b101000..=0b101011 => {
+            let disp = disp7(opcode, reg1) / 2 * 4;
+            if reg1 % 2 == 0 {
+                sld(Size::Word, disp, reg2)
+            } else {
+                sst(Size::Word, disp, reg2)
+            }
+        }
+        0b101100..=0b101111 => Decoded::Valid(Insn::Bcond { cond: reg1 % 16, disp: disp9(reg2, opcode, reg1) }),
+        0b110000 => imm16(Imm16Op::Addi, extend::sign16(w), reg1, reg2),
+        0b110001 => imm16(Imm16Op::Movea, extend::sign16(w), reg1, reg2),
+        0b110010 => imm16(Imm16Op::Movhi, extend::zero16(w), reg1, reg2),
+        0b110011 => imm16(Imm16Op::Satsubi, extend::sign16(w), reg1, reg2),
+        0b110100 => imm16(Imm16Op::Ori, extend::zero16(w), reg1, reg2),
+        0b110101 => imm16(Imm16Op::Xori, extend::zero16(w), reg1, reg2),
+        0b110110 => imm16(Imm16Op::Andi, extend::zero16(w), reg1, reg2),
+        0b110111 => imm16(Imm16Op::Mulhi, extend::sign16(w), reg1, reg2),
+        0b111000 => ld(Size::Byte, extend::sign16(w), reg1, reg2),
+        0b111001 => {
+            if w % 2 == 0 {
+                ld(Size::Half, extend::sign16(w), reg1, reg2)
+            } else {
+                ld(Size::Word, extend::sign16(w - 1), reg1, reg2)
+            }
+        }
+        0b111010 => st(Size::Byte, extend::sign16(w), reg1, reg2),
+        0b111011 => {
+            if w % 2 == 0 {
+                st(Size::Half, extend::sign16(w), reg1, reg2)
+            } else {
+                st(Size::Word, extend::sign16(w - 1), reg1, reg2)
+            }
+        }
+        0b111100..=0b111101 => {
+            if w % 2 == 0 {
+                Decoded::Valid(Insn::Jarl { disp: disp22(opcode, reg1, w), reg2: reg2 })
+            } else {
+                Decoded::Undefined
+            }
+        }
+        0b111110 => Decoded::Valid(Insn::Bit { op: bit_op(reg2 / 8), bit: reg2 % 8, disp: extend::sign16(w), reg1: reg1 }),
+        _ => extended(reg2, reg1, w),
+    }
+}
+
+// Opcode 111111, by the second halfword.
+fn extended(reg2: u32, reg1: u32, w: u32) -> Decoded
+    requires { ⌜ (reg2 < 32) × (reg1 < 32) × (w < 65536) ⌝ }
+    ensures { λ r. ⌜ r ≡ decodeExtended reg2 reg1 w ⌝ }
+{
+    if 0b0011 <= w / 128 % 16 {
+        return Decoded::Illegal;
+    }
+    match w {
+        0x0000 => {
+            if reg1 < 16 {
+                Decoded::Valid(Insn::Setf { cond: reg1, reg2: reg2 })
+            } else {
+                Decoded::Undefined
+            }
+        }
+        0x0020 => {
+            if loads(reg2) {
+                Decoded::Valid(Insn::Ldsr { reg2: reg1, regid: reg2 })
+            } else {
+                Decoded::Undefined
+            }
+        }
+        0x0040 => {
+            if reg1 < 6 {
+                Decoded::Valid(Insn::Stsr { regid: reg1, reg2: reg2 })
+            } else {
+                Decoded::Undefined
+            }
+        }
+        0x0080 => Decoded::Valid(Insn::Shift { op: ShiftOp::Shr, reg1: reg1, reg2: reg2 }),
+        0x00A0 => Decoded::Valid(Insn::Shift { op: ShiftOp::Sar, reg1: reg1, reg2: reg2 }),
+        0x00C0 => Decoded::Valid(Insn::Shift { op: ShiftOp::Shl, reg1: reg1, reg2: reg2 }),
+        0x0100 => {
+            if reg2 == 0 {
+                Decoded::Valid(Insn::Trap { vector: reg1 })
+            } else {
+                Decoded::Undefined
+            }
+        }
+        0x0120 => bare(reg2 + reg1, Insn::Halt),
+        0x0140 => bare(reg2 + reg1, Insn::Reti),
+        0x0160 => {
+            if reg2 == 16 {
+                bare(reg1, Insn::Ei)
+            } else {
+                bare(reg2 + reg1, Insn::Di)
+            }
+        }
+        _ => Decoded::Undefined,
+    }
+}
+
+// Instructions with several operations or sizes.
+fn reg(op: RegOp, reg1: u32, reg2: u32) -> Decoded
+    ensures { λ r. ⌜ r ≡ Decoded.Valid (Insn.Reg op reg1 reg2) ⌝ }
+{
+    Decoded::Valid(Insn::Reg { op, reg1, reg2 })
+}
+
+fn imm5(op: Imm5Op, imm: u32, reg2: u32) -> Decoded
+    ensures { λ r. ⌜ r ≡ Decoded.Valid (Insn.Imm5 op imm reg2) ⌝ }
+{
+    Decoded::Valid(Insn::Imm5 { op, imm, reg2 })
+}
+
+fn sld(size: Size, disp: u32, reg2: u32) -> Decoded
+    ensures { λ r. ⌜ r ≡ Decoded.Valid (Insn.Sld size disp reg2) ⌝ }
+{
+    Decoded::Valid(Insn::Sld { size, disp, reg2 })
+}
+
+fn sst(size: Size, disp: u32, reg2: u32) -> Decoded
+    ensures { λ r. ⌜ r ≡ Decoded.Valid (Insn.Sst size disp reg2) ⌝ }
+{
+    Decoded::Valid(Insn::Sst { size, disp, reg2 })
+}
+
+fn imm16(op: Imm16Op, imm: u32, reg1: u32, reg2: u32) -> Decoded
+    ensures { λ r. ⌜ r ≡ Decoded.Valid (Insn.Imm16 op imm reg1 reg2) ⌝ }
+{
+    Decoded::Valid(Insn::Imm16 { op, imm, reg1, reg2 })
+}
+
+fn ld(size: Size, disp: u32, reg1: u32, reg2: u32) -> Decoded
+    ensures { λ r. ⌜ r ≡ Decoded.Valid (Insn.Ld size disp reg1 reg2) ⌝ }
+{
+    Decoded::Valid(Insn::Ld { size, disp, reg1, reg2 })
+}
+
+fn st(size: Size, disp: u32, reg1: u32, reg2: u32) -> Decoded
+    ensures { λ r. ⌜ r ≡ Decoded.Valid (Insn.St size disp reg1 reg2) ⌝ }
+{
+    Decoded::Valid(Insn::St { size, disp, reg1, reg2 })
+}
+
+// An instruction whose other fields are all 0.
+fn bare(others: u32, i: Insn) -> Decoded
+    ensures { λ r. ⌜ r ≡ when (eqb others 0) i ⌝ }
+{
+    if others == 0 {
+        Decoded::Valid(i)
+    } else {
+        Decoded::Undefined
+    }
+}
+
+// Displacements that are kept in two fields.
+fn disp7(opcode: u32, reg1: u32) -> u32
+    requires { ⌜ reg1 < 32 ⌝ }
+    ensures { λ r. ⌜ r ≡ disp7 opcode reg1 ⌝ }
+{
+    opcode % 4 * 32 + reg1
+}
+
+fn disp9(reg2: u32, opcode: u32, reg1: u32) -> u32
+    requires { ⌜ (reg2 < 32) × (reg1 < 32) ⌝ }
+    ensures { λ r. ⌜ r ≡ disp9 reg2 opcode reg1 ⌝ }
+{
+    extend::sign9(reg2 * 16 + (opcode % 4 * 2 + reg1 / 16) * 2)
+}
+
+fn disp22(opcode: u32, reg1: u32, w: u32) -> u32
+    requires { ⌜ (reg1 < 32) × (w < 65536) ⌝ }
+    ensures { λ r. ⌜ r ≡ disp22 opcode reg1 w ⌝ }
+{
+    extend::sign22((opcode % 2 * 32 + reg1) * 65536 + w)
+}
+
+fn bit_op(n: u32) -> BitOp
+    requires { ⌜ n < 4 ⌝ }
+    ensures { λ r. ⌜ r ≡ bitOp n ⌝ }
+{
+    match n {
+        0b00 => BitOp::Set1,
+        0b01 => BitOp::Not1,
+        0b10 => BitOp::Clr1,
+        _ => BitOp::Tst1,
+    }
+}
+
+// System numbers that LDSR takes.
+pub fn loads(regid: u32) -> bool
+    ensures { λ r. ⌜ r ≡ loads regid ⌝ }
+{
+    regid < 4 || regid == 5
+}
