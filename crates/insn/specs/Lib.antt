@@ -1,1 +1,4 @@
 pub mod Coding
+pub mod CodingLaws
+pub mod RoundTrip
+pub mod Numbers
