@@ -5,5 +5,6 @@ pub mod Memory
 pub mod Operations
 pub mod Step
 pub mod Run
+pub mod WellFormed
 pub mod Alike
 pub mod Samples
