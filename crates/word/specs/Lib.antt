@@ -3,4 +3,5 @@ pub mod Sums
 pub mod Shifts
 pub mod Products
 pub mod Extend
+pub mod Bounds
 pub mod Flags
