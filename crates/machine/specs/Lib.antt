@@ -6,5 +6,7 @@ pub mod Operations
 pub mod Step
 pub mod Run
 pub mod WellFormed
+pub mod InvariantLaws
+pub mod Invariants
 pub mod Alike
 pub mod Samples
