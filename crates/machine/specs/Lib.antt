@@ -1,0 +1,12 @@
+pub mod Marked
+pub mod Psw
+pub mod Regions
+pub mod Memory
+pub mod Operations
+pub mod Step
+pub mod Run
+pub mod WellFormed
+pub mod InvariantLaws
+pub mod Invariants
+pub mod Alike
+pub mod Samples
