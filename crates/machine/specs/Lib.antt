@@ -6,4 +6,6 @@ pub mod Operations
 pub mod Step
 pub mod Run
 pub mod Alike
+pub mod AlikeLaws
+pub mod Secrecy
 pub mod Samples
