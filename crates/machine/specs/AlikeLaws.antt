@@ -135,8 +135,8 @@ agree-bits m x y h e (suc (suc (suc (suc (suc k))))) l =
 packed-alike : {m f g : Flags} → AgreeOff m f g → AlikeBits (bits (packed f) (packed m)) (bits (packed g) (packed m))
 packed-alike {m} {f} {g} h =
     same (packed m) (packed f) (packed g)
-      (agree-bits (packed m) (packed f) (packed g) (rw (unpacked-packed m, unpacked-packed f, unpacked-packed g) h)
-        (omega (arith, packed-lt f, packed-lt g)))
+    (agree-bits (packed m) (packed f) (packed g) (rw (unpacked-packed m, unpacked-packed f, unpacked-packed g) h)
+    (omega (arith, packed-lt f, packed-lt g)))
 
 -- the flags taken over, below bits that are the same
 low-alike : (x y : ℕ) {a b : Bits} → x % 2 ^ 5 ≡ a .on % 2 ^ 5 → y % 2 ^ 5 ≡ b .on % 2 ^ 5 → x / 2 ^ 5 ≡ y / 2 ^ 5 → AlikeBits a b
@@ -156,7 +156,7 @@ follow-agree raised {m} {n} p q e = of-two _||_ m n p q e
 
 followed-alike : (r : Rules) (m : Bool) {f g : Flags} {a b : Bits} → (m ≡ false → f ≡ g) → AlikeBits a b
     → AlikeBits (bits (packed (followAll r (unpacked (a .on)) f)) (packed (followAll r (unpacked (a .marks)) (everyFlag m))))
-                (bits (packed (followAll r (unpacked (b .on)) g)) (packed (followAll r (unpacked (b .marks)) (everyFlag m))))
+    (bits (packed (followAll r (unpacked (b .on)) g)) (packed (followAll r (unpacked (b .marks)) (everyFlag m))))
 followed-alike r m p (same n x y q) =
     let h = flags-agree (same n x y q) in
     packed-alike (record {
@@ -174,7 +174,7 @@ Agree true m x y = AgreeBits m x y
 
 pub data Twins (byBits : ℕ → Bool) : Cells → Cells → Type 0 where
   same : (xs ys ms : List ℕ) → length xs ≡ length ms → length ys ≡ length ms
-    → ((i : ℕ) → Agree (byBits i) (getD ms i 0) (getD xs i 0) (getD ys i 0)) → Twins byBits (both xs ms) (both ys ms)
+      → ((i : ℕ) → Agree (byBits i) (getD ms i 0) (getD xs i 0) (getD ys i 0)) → Twins byBits (both xs ms) (both ys ms)
 
 -- what holds in each place of three lists still does after a set in all three
 module _ (P : ℕ → ℕ → ℕ → ℕ → Type 0) (xs ys ms : List ℕ) (lx : length xs ≡ length ms) (ly : length ys ≡ length ms) (i m x y : ℕ) (p : P i m x y)
@@ -198,7 +198,7 @@ module _ {byBits : ℕ → Bool} where
   pub twins : {c d : Cells} → length (c .nums) ≡ length (c .marks) → Alike byBits c d → Twins byBits c d
   twins {c} {d} w h =
       subst (λ (ms : List ℕ). Twins byBits c (both (d .nums) ms)) (h .marks)
-        (same (c .nums) (d .nums) (c .marks) w (sym (h .sizes) ∙ w) (λ i. each i (byBits i) refl))
+      (same (c .nums) (d .nums) (c .marks) w (sym (h .sizes) ∙ w) (λ i. each i (byBits i) refl))
     where
       each : (i : ℕ) (b : Bool) → byBits i ≡ b → Agree b (getD (c .marks) i 0) (getD (c .nums) i 0) (getD (d .nums) i 0)
       each i false e = h .values i e
@@ -212,8 +212,8 @@ module _ {byBits : ℕ → Bool} where
       → Twins byBits (both (set (c .nums) i x) (set (c .marks) i m)) (both (set (d .nums) i y) (set (d .marks) i m))
   write-alike i m x y p (same xs ys ms lx ly each) =
       same (set xs i x) (set ys i y) (set ms i m)
-        (length-set xs i x ∙ lx ∙ sym (length-set ms i m)) (length-set ys i y ∙ ly ∙ sym (length-set ms i m))
-        (set-each (λ j m x y. Agree (byBits j) m x y) xs ys ms lx ly i m x y p each)
+      (length-set xs i x ∙ lx ∙ sym (length-set ms i m)) (length-set ys i y ∙ ly ∙ sym (length-set ms i m))
+      (set-each (λ j m x y. Agree (byBits j) m x y) xs ys ms lx ly i m x y p each)
 
   pub cell-alike : {c d : Cells} (i : ℕ) → byBits i ≡ false → Twins byBits c d → AlikeTv (cell c i) (cell d i)
   cell-alike i e (same xs ys ms lx ly each) = same (marked (getD ms i 0)) (rw e at (each i))
@@ -225,7 +225,7 @@ module _ {byBits : ℕ → Bool} where
   pub edit-alike : {c d : Cells} (i : ℕ) (f : ℕ → ℕ) → byBits i ≡ false → Twins byBits c d → Twins byBits (edit i f c) (edit i f d)
   edit-alike i f e (same xs ys ms lx ly each) =
       rw (← set-getD ms i 0)
-        (write-alike i (getD ms i 0) (f (getD xs i 0)) (f (getD ys i 0)) (rw e (λ u. ap f ((rw e at (each i)) u))) (same xs ys ms lx ly each))
+      (write-alike i (getD ms i 0) (f (getD xs i 0)) (f (getD ys i 0)) (rw e (λ u. ap f ((rw e at (each i)) u))) (same xs ys ms lx ly each))
 
   pub bitsAt-alike : {c d : Cells} (i : ℕ) → byBits i ≡ true → Twins byBits c d → AlikeBits (bitsAt i c) (bitsAt i d)
   bitsAt-alike i e (same xs ys ms lx ly each) = same (getD ms i 0) (getD xs i 0) (getD ys i 0) (rw e at (each i))
@@ -270,7 +270,7 @@ module _ {c d : Cells} (h : TwinCells c d) where
     where
       of-bits : {a b : Bits} → AlikeBits a b
           → AlikeTv (tv (cond (holds k (unpacked (a .on))) 1 0) (reads k (unpacked (a .marks))))
-                    (tv (cond (holds k (unpacked (b .on))) 1 0) (reads k (unpacked (b .marks))))
+          (tv (cond (holds k (unpacked (b .on))) 1 0) (reads k (unpacked (b .marks))))
       of-bits (same m x y p) =
           same (reads k (unpacked m)) λ e.
           ap (λ (t : Bool). cond t 1 0) (reads-enough k (unpacked m) (unpacked x) (unpacked y) (flags-agree (same m x y p)) e)

@@ -74,7 +74,9 @@ tested-alike k p h g = setZ-alike h (λ b. eqb (b / 2 ^ k % 2) 0) (cell-alike p 
 
 -- Each step from alike states, by the laws of its parts
 ruleset values = (plain-alike, lift1-alike, liftAll-alike, reg-alike, cell-alike, bytesAt-alike, condition-alike, gathered-alike, mode-alike, if-tv)
+
 ruleset writes = (putReg-alike, put-alike, edit-alike, putBytes-alike, putBits-alike, bitsAt-alike, bits-alike, spread-alike, psw-alike, putPswFlags-alike)
+
 ruleset parts = (values, writes, operate-alike, tested-alike, reveal-alike, place-alike, if-outcome, same)
 
 module _ (map : List ℕ) (o : Open) {c d m n : Cells} (h : TwinCells c d) (g : TwinMems m n) where
