@@ -195,10 +195,10 @@ module _ (P : ℕ → ℕ → ℕ → ℕ → Type 0) (xs ys ms : List ℕ) (lx 
       ]
 
 module _ {byBits : ℕ → Bool} where
-  pub twins : {c d : Cells} → length (c .nums) ≡ length (c .marks) → Alike byBits c d → Twins byBits c d
-  twins {c} {d} w h =
+  pub twins : {c d : Cells} → Alike byBits c d → Twins byBits c d
+  twins {c} {d} h =
       subst (λ (ms : List ℕ). Twins byBits c (both (d .nums) ms)) (h .marks)
-      (same (c .nums) (d .nums) (c .marks) w (sym (h .sizes) ∙ w) (λ i. each i (byBits i) refl))
+      (same (c .nums) (d .nums) (c .marks) (h .whole) (sym (h .sizes) ∙ h .whole) (λ i. each i (byBits i) refl))
     where
       each : (i : ℕ) (b : Bool) → byBits i ≡ b → Agree b (getD (c .marks) i 0) (getD (c .nums) i 0) (getD (d .nums) i 0)
       each i false e = h .values i e
@@ -206,7 +206,7 @@ module _ {byBits : ℕ → Bool} where
 
   pub alike : {c d : Cells} → Twins byBits c d → Alike byBits c d
   alike (same xs ys ms lx ly each) =
-      record { sizes = lx ∙ sym ly; marks = refl; values = λ i e. rw e at (each i); bits = λ i k e. (rw e at (each i)) k }
+      record { sizes = lx ∙ sym ly; whole = lx; marks = refl; values = λ i e. rw e at (each i); bits = λ i k e. (rw e at (each i)) k }
 
   write-alike : {c d : Cells} (i m x y : ℕ) → Agree (byBits i) m x y → Twins byBits c d
       → Twins byBits (both (set (c .nums) i x) (set (c .marks) i m)) (both (set (d .nums) i y) (set (d .marks) i m))

@@ -4,7 +4,6 @@ use mathlib.Core.Bool.{Bool, true, false, cond}
 use mathlib.Core.List.{List}
 use Prim.Native.Nat.{ℕ, zero, suc, _/_, _%_, _^_}
 use lib.Dec.{eqb}
-use lib.ListN.{length}
 use Rattle.insn.specs.declared.Size.{Size}
 use Rattle.insn.specs.declared.BitOp.{BitOp}
 use Rattle.insn.specs.declared.Insn.{Insn}
@@ -171,14 +170,10 @@ pub record AlikeOutcomes (x y : Outcome) : Type 0 where
 outcomes-alike : {x y : Outcome} → TwinOutcomes x y → AlikeOutcomes x y
 outcomes-alike (same w h g) = record { went = refl; cells = alike h; mem = alike g }
 
--- a mark for each number: where there is none, a marked value would be written without its mark
-abbrev pub Whole : Cells → Type 0
-Whole c = length (c .nums) ≡ length (c .marks)
-
-pub step-secrecy : (map : List ℕ) (o : Open) {c d m n : Cells} → Whole c → Whole m → Alike bitCells c d → Alike noBitCells m n
+pub step-secrecy : (map : List ℕ) (o : Open) {c d m n : Cells} → Alike bitCells c d → Alike noBitCells m n
     → AlikeOutcomes (step map o c m) (step map o d n)
-step-secrecy map o p q h g = outcomes-alike (step-alike map o (twins p h) (twins q g))
+step-secrecy map o h g = outcomes-alike (step-alike map o (twins h) (twins g))
 
-pub secrecy : (budget : ℕ) (map : List ℕ) (o : Open) {c d m n : Cells} → Whole c → Whole m → Alike bitCells c d → Alike noBitCells m n
+pub secrecy : (budget : ℕ) (map : List ℕ) (o : Open) {c d m n : Cells} → Alike bitCells c d → Alike noBitCells m n
     → AlikeEnds (run budget 0 map o c m) (run budget 0 map o d n)
-secrecy budget map o p q h g = run-alike budget 0 map o (twins p h) (twins q g)
+secrecy budget map o h g = run-alike budget 0 map o (twins h) (twins g)
