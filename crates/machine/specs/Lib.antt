@@ -9,4 +9,6 @@ pub mod WellFormed
 pub mod InvariantLaws
 pub mod Invariants
 pub mod Alike
+pub mod AlikeLaws
+pub mod Secrecy
 pub mod Samples
