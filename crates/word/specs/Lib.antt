@@ -4,3 +4,6 @@ pub mod Shifts
 pub mod Products
 pub mod Extend
 pub mod Flags
+pub mod Tests
+pub mod FlagLaws
+pub mod Numbers

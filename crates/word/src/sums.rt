@@ -96,6 +96,6 @@ pub fn satadd(a: u32, b: u32) -> Computed
 pub fn satsub(a: u32, b: u32) -> Computed
     ensures { λ r. ⌜ r ≡ satsub a b ⌝ }
 {
-    let e = sub(a, b);
-    signed::computed(saturated(a, e.result, e.ov), e.ov, e.cy)
+    let d = sub(a, b);
+    signed::computed(saturated(a, d.result, d.ov), d.ov, d.cy)
 }

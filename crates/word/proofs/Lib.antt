@@ -1,0 +1,5 @@
+pub mod Readings
+pub mod Exact
+pub mod Bits
+pub mod Keys
+pub mod Settings
