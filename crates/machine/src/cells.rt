@@ -3,7 +3,6 @@ ghost use mathlib.Core.Path.{_≡_};
 ghost use Prim.Native.Nat.{_<_};
 ghost use Rattle.machine.specs.Marked.{both, markOf, cell, put};
 ghost use Rattle.machine.specs.Psw.{reg, putReg};
-
 use crate::Tv;
 
 // A mark as it is written.
@@ -18,7 +17,10 @@ pub fn get(cells: &[u32; 38], tags: &[u8; 38], i: u32) -> Tv
     ensures { λ r. ⌜ r ≡ cell (both (now (cells .entry)) (now (tags .entry))) i ⌝ }
 {
     let k = i as usize;
-    Tv { val: cells[k], mark: tags[k] != 0 }
+    Tv {
+        val: cells[k],
+        mark: tags[k] != 0,
+    }
 }
 
 pub fn put(cells: &mut [u32; 38], tags: &mut [u8; 38], i: u32, v: Tv)

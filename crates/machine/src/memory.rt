@@ -4,9 +4,8 @@ ghost use Prim.Native.Nat.{_+_, _≤_, _<_};
 ghost use lib.ListN.{length};
 ghost use Rattle.machine.specs.Marked.{both, liftAll, cell, edit};
 ghost use Rattle.machine.specs.Memory.{width, aligned, bytesAt, littleEndian, extended, putBytes, changed, tests};
-
-use crate::cells;
 use crate::Tv;
+use crate::cells;
 use insn::BitOp;
 use insn::Size;
 use word::extend;
@@ -27,9 +26,18 @@ pub fn load(size: Size, mem: &[u8], marks: &[u8], p: usize) -> Tv
     ensures { λ r. ⌜ r ≡ liftAll (extended size) (bytesAt (both (now (mem .entry)) (now (marks .entry))) p size) ⌝ }
 {
     match size {
-        Size::Byte => Tv { val: extend::sign8(byte(mem, p)), mark: byte(marks, p) != 0 },
-        Size::Half => Tv { val: extend::sign16(half(mem, p)), mark: half(marks, p) != 0 },
-        Size::Word => Tv { val: word(mem, p), mark: word(marks, p) != 0 },
+        Size::Byte => Tv {
+            val: extend::sign8(byte(mem, p)),
+            mark: byte(marks, p) != 0,
+        },
+        Size::Half => Tv {
+            val: extend::sign16(half(mem, p)),
+            mark: half(marks, p) != 0,
+        },
+        Size::Word => Tv {
+            val: word(mem, p),
+            mark: word(marks, p) != 0,
+        },
     }
 }
 
@@ -38,7 +46,10 @@ pub fn fetch(mem: &[u8], marks: &[u8], p: usize) -> Tv
     requires { ⌜ (p + 2 ≤ length (now mem)) × (length (now mem) ≡ length (now marks)) ⌝ }
     ensures { λ r. ⌜ r ≡ liftAll littleEndian (bytesAt (both (now (mem .entry)) (now (marks .entry))) p Size.Half) ⌝ }
 {
-    Tv { val: half(mem, p), mark: half(marks, p) != 0 }
+    Tv {
+        val: half(mem, p),
+        mark: half(marks, p) != 0,
+    }
 }
 
 // A store of one, two or four bytes, each with the value's mark.

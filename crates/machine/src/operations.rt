@@ -5,21 +5,20 @@ ghost use Prim.Native.Nat.{_<_};
 ghost use Rattle.machine.specs.Marked.{both, tv};
 ghost use Rattle.machine.specs.Psw.{putReg, setFlags};
 ghost use Rattle.machine.specs.Operations.{only, ofReg, ofImm5, ofImm16, ofShift, operate};
-
-use crate::cells;
-use crate::psw;
 use crate::Op;
 use crate::Tv;
-use insn::Imm16Op;
+use crate::cells;
+use crate::psw;
 use insn::Imm5Op;
+use insn::Imm16Op;
 use insn::RegOp;
 use insn::ShiftOp;
+use word::Computed;
 use word::extend;
 use word::products;
 use word::shifts;
 use word::signed;
 use word::sums;
-use word::Computed;
 
 // A result whose OV and CY are not set.
 fn only(r: u32) -> Computed
@@ -33,7 +32,15 @@ fn logic(a: Computed, mark: bool, r: u32, cells: &mut [u32; 38], tags: &mut [u8;
     requires { ⌜ r < 32 ⌝ }
     ensures { λ _. ⌜ both (now (cells .exit)) (now (tags .exit)) ≡ setFlags Kind.Logic a mark (putReg r (tv (a .result) mark) (both (now (cells .entry)) (now (tags .entry)))) ⌝ }
 {
-    cells::put_reg(cells, tags, r, Tv { val: a.result, mark: mark });
+    cells::put_reg(
+        cells,
+        tags,
+        r,
+        Tv {
+            val: a.result,
+            mark: mark,
+        },
+    );
     psw::logic_flags(a, mark, cells, tags);
 }
 
@@ -41,7 +48,15 @@ fn mask(a: Computed, mark: bool, r: u32, cells: &mut [u32; 38], tags: &mut [u8; 
     requires { ⌜ r < 32 ⌝ }
     ensures { λ _. ⌜ both (now (cells .exit)) (now (tags .exit)) ≡ setFlags Kind.Mask a mark (putReg r (tv (a .result) mark) (both (now (cells .entry)) (now (tags .entry)))) ⌝ }
 {
-    cells::put_reg(cells, tags, r, Tv { val: a.result, mark: mark });
+    cells::put_reg(
+        cells,
+        tags,
+        r,
+        Tv {
+            val: a.result,
+            mark: mark,
+        },
+    );
     psw::mask_flags(a, mark, cells, tags);
 }
 
@@ -49,7 +64,15 @@ fn shift(a: Computed, mark: bool, r: u32, cells: &mut [u32; 38], tags: &mut [u8;
     requires { ⌜ r < 32 ⌝ }
     ensures { λ _. ⌜ both (now (cells .exit)) (now (tags .exit)) ≡ setFlags Kind.Shift a mark (putReg r (tv (a .result) mark) (both (now (cells .entry)) (now (tags .entry)))) ⌝ }
 {
-    cells::put_reg(cells, tags, r, Tv { val: a.result, mark: mark });
+    cells::put_reg(
+        cells,
+        tags,
+        r,
+        Tv {
+            val: a.result,
+            mark: mark,
+        },
+    );
     psw::shift_flags(a, mark, cells, tags);
 }
 
@@ -57,7 +80,15 @@ fn divide(a: Computed, mark: bool, r: u32, cells: &mut [u32; 38], tags: &mut [u8
     requires { ⌜ r < 32 ⌝ }
     ensures { λ _. ⌜ both (now (cells .exit)) (now (tags .exit)) ≡ setFlags Kind.Divide a mark (putReg r (tv (a .result) mark) (both (now (cells .entry)) (now (tags .entry)))) ⌝ }
 {
-    cells::put_reg(cells, tags, r, Tv { val: a.result, mark: mark });
+    cells::put_reg(
+        cells,
+        tags,
+        r,
+        Tv {
+            val: a.result,
+            mark: mark,
+        },
+    );
     psw::divide_flags(a, mark, cells, tags);
 }
 
@@ -65,7 +96,15 @@ fn arith(a: Computed, mark: bool, r: u32, cells: &mut [u32; 38], tags: &mut [u8;
     requires { ⌜ r < 32 ⌝ }
     ensures { λ _. ⌜ both (now (cells .exit)) (now (tags .exit)) ≡ setFlags Kind.Arith a mark (putReg r (tv (a .result) mark) (both (now (cells .entry)) (now (tags .entry)))) ⌝ }
 {
-    cells::put_reg(cells, tags, r, Tv { val: a.result, mark: mark });
+    cells::put_reg(
+        cells,
+        tags,
+        r,
+        Tv {
+            val: a.result,
+            mark: mark,
+        },
+    );
     psw::arith_flags(a, mark, cells, tags);
 }
 
@@ -73,7 +112,15 @@ fn saturate(a: Computed, mark: bool, r: u32, cells: &mut [u32; 38], tags: &mut [
     requires { ⌜ r < 32 ⌝ }
     ensures { λ _. ⌜ both (now (cells .exit)) (now (tags .exit)) ≡ setFlags Kind.Saturate a mark (putReg r (tv (a .result) mark) (both (now (cells .entry)) (now (tags .entry)))) ⌝ }
 {
-    cells::put_reg(cells, tags, r, Tv { val: a.result, mark: mark });
+    cells::put_reg(
+        cells,
+        tags,
+        r,
+        Tv {
+            val: a.result,
+            mark: mark,
+        },
+    );
     psw::saturate_flags(a, mark, cells, tags);
 }
 
@@ -90,7 +137,15 @@ pub fn operate(op: Op, x: Tv, y: Tv, r: u32, cells: &mut [u32; 38], tags: &mut [
         Op::Satsubr => saturate(sums::satsub(x.val, y.val), mark, r, cells, tags),
         Op::Satsub => saturate(sums::satsub(y.val, x.val), mark, r, cells, tags),
         Op::Satadd => saturate(sums::satadd(y.val, x.val), mark, r, cells, tags),
-        Op::Mulh => cells::put_reg(cells, tags, r, Tv { val: products::mulh(y.val, x.val), mark: mark }),
+        Op::Mulh => cells::put_reg(
+            cells,
+            tags,
+            r,
+            Tv {
+                val: products::mulh(y.val, x.val),
+                mark: mark,
+            },
+        ),
         Op::Or => logic(only(y.val | x.val), mark, r, cells, tags),
         Op::Xor => logic(only(y.val ^ x.val), mark, r, cells, tags),
         Op::And => logic(only(y.val & x.val), mark, r, cells, tags),
@@ -103,8 +158,24 @@ pub fn operate(op: Op, x: Tv, y: Tv, r: u32, cells: &mut [u32; 38], tags: &mut [
         Op::Shr => shift(shifts::shr(y.val, x.val), mark, r, cells, tags),
         Op::Sar => shift(shifts::sar(y.val, x.val), mark, r, cells, tags),
         Op::Shl => shift(shifts::shl(y.val, x.val), mark, r, cells, tags),
-        Op::Movea => cells::put_reg(cells, tags, r, Tv { val: sums::sum(y.val, x.val), mark: mark }),
-        Op::Movhi => cells::put_reg(cells, tags, r, Tv { val: sums::sum(y.val, extend::high_half(x.val)), mark: mark }),
+        Op::Movea => cells::put_reg(
+            cells,
+            tags,
+            r,
+            Tv {
+                val: sums::sum(y.val, x.val),
+                mark: mark,
+            },
+        ),
+        Op::Movhi => cells::put_reg(
+            cells,
+            tags,
+            r,
+            Tv {
+                val: sums::sum(y.val, extend::high_half(x.val)),
+                mark: mark,
+            },
+        ),
     }
 }
 

@@ -4,11 +4,10 @@ ghost use mathlib.Core.Bool.{cond};
 ghost use Prim.Native.Nat.{_*_, _/_, _%_, _<_};
 ghost use Rattle.machine.specs.Marked.{both};
 ghost use Rattle.machine.specs.Psw.{setFlags, setZ, condition, bits, bitsAt, putBits, psw, putPswFlags, mode, spread, gathered};
-
 use crate::Open;
 use crate::Tv;
-use word::flags;
 use word::Computed;
+use word::flags;
 
 const FLAGS: usize = 37;
 
@@ -87,7 +86,10 @@ pub fn set_z(z: bool, mark: bool, cells: &mut [u32; 38], tags: &mut [u8; 38])
 pub fn condition(k: u32, cells: &[u32; 38], tags: &[u8; 38]) -> Tv
     ensures { λ r. ⌜ r ≡ condition k (both (now (cells .entry)) (now (tags .entry))) ⌝ }
 {
-    Tv { val: on(flags::holds(k, cells[FLAGS]), 1), mark: flags::reads(k, tags[FLAGS] as u32) }
+    Tv {
+        val: on(flags::holds(k, cells[FLAGS]), 1),
+        mark: flags::reads(k, tags[FLAGS] as u32),
+    }
 }
 
 // PSW: NP, EP and ID above the flags.
@@ -121,7 +123,10 @@ pub fn mode(i: u32, cells: &[u32; 38], tags: &[u8; 38]) -> Tv
     ensures { λ r. ⌜ r ≡ mode (bitsAt i (both (now (cells .entry)) (now (tags .entry)))) ⌝ }
 {
     let k = i as usize;
-    Tv { val: cells[k] / 32 % 8, mark: tags[k] / 32 % 8 != 0 }
+    Tv {
+        val: cells[k] / 32 % 8,
+        mark: tags[k] / 32 % 8 != 0,
+    }
 }
 
 // A value to the cell of a saved PSW: all bits marked, or none.
@@ -140,12 +145,18 @@ pub fn gathered(i: u32, cells: &[u32; 38], tags: &[u8; 38]) -> Tv
     ensures { λ r. ⌜ r ≡ gathered (bitsAt i (both (now (cells .entry)) (now (tags .entry)))) ⌝ }
 {
     let k = i as usize;
-    Tv { val: cells[k] % 256, mark: tags[k] != 0 }
+    Tv {
+        val: cells[k] % 256,
+        mark: tags[k] != 0,
+    }
 }
 
 // PSW as a value.
 pub fn gathered_psw(o: Open, cells: &[u32; 38], tags: &[u8; 38]) -> Tv
     ensures { λ r. ⌜ r ≡ gathered (psw o (both (now (cells .entry)) (now (tags .entry)))) ⌝ }
 {
-    Tv { val: psw(o, cells), mark: tags[FLAGS] % 32 != 0 }
+    Tv {
+        val: psw(o, cells),
+        mark: tags[FLAGS] % 32 != 0,
+    }
 }

@@ -2,12 +2,13 @@
 ghost use mathlib.Core.Path.{_≡_};
 ghost use Prim.Native.Nat.{_^_, _<_};
 ghost use Rattle.machine.specs.Regions.{find};
-
 use crate::Spot;
 
 // Rights by the place of their bit.
 pub const READ: u32 = 0;
+
 pub const WRITE: u32 = 1;
+
 pub const FETCH: u32 = 2;
 
 // Where the address a lies in memory: the regions are tried in order.
