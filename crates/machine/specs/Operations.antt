@@ -40,27 +40,27 @@ row k t w f = record { kind = k; two = t; writes = w; outcome = f }
 
 unfoldable pub operation : Op → Operation
 --                      flags    two   writes
-operation Mov     = row Quiet    false true  (λ x y. only x)
-operation Not     = row Logic    false true  (λ x y. only (W - 1 - x))
-operation Divh    = row Divide   true  true  (λ x y. divh y x)
-operation Satsubr = row Saturate true  true  (λ x y. satsub x y)
-operation Satsub  = row Saturate true  true  (λ x y. satsub y x)
-operation Satadd  = row Saturate true  true  (λ x y. satadd y x)
-operation Mulh    = row Quiet    true  true  (λ x y. only (mulh y x))
-operation Or      = row Logic    true  true  (λ x y. only (bitOr y x))
-operation Xor     = row Logic    true  true  (λ x y. only (bitXor y x))
-operation And     = row Logic    true  true  (λ x y. only (bitAnd y x))
-operation Tst     = row Logic    true  false (λ x y. only (bitAnd y x))
-operation Subr    = row Arith    true  true  (λ x y. sub x y)
-operation Sub     = row Arith    true  true  (λ x y. sub y x)
-operation Add     = row Arith    true  true  (λ x y. add y x)
-operation Cmp     = row Arith    true  false (λ x y. sub y x)
-operation Shr     = row Shift    true  true  (λ x y. shr y x)
-operation Sar     = row Shift    true  true  (λ x y. sar y x)
-operation Shl     = row Shift    true  true  (λ x y. shl y x)
-operation Movea   = row Quiet    true  true  (λ x y. only (sum y x))
-operation Movhi   = row Quiet    true  true  (λ x y. only (sum y (highHalf x)))
-operation Andi    = row Mask     true  true  (λ x y. only (bitAnd y x))
+operation Mov = row Quiet false true (λ x y. only x)
+operation Not = row Logic false true (λ x y. only (W - 1 - x))
+operation Divh = row Divide true true (λ x y. divh y x)
+operation Satsubr = row Saturate true true (λ x y. satsub x y)
+operation Satsub = row Saturate true true (λ x y. satsub y x)
+operation Satadd = row Saturate true true (λ x y. satadd y x)
+operation Mulh = row Quiet true true (λ x y. only (mulh y x))
+operation Or = row Logic true true (λ x y. only (bitOr y x))
+operation Xor = row Logic true true (λ x y. only (bitXor y x))
+operation And = row Logic true true (λ x y. only (bitAnd y x))
+operation Tst = row Logic true false (λ x y. only (bitAnd y x))
+operation Subr = row Arith true true (λ x y. sub x y)
+operation Sub = row Arith true true (λ x y. sub y x)
+operation Add = row Arith true true (λ x y. add y x)
+operation Cmp = row Arith true false (λ x y. sub y x)
+operation Shr = row Shift true true (λ x y. shr y x)
+operation Sar = row Shift true true (λ x y. sar y x)
+operation Shl = row Shift true true (λ x y. shl y x)
+operation Movea = row Quiet true true (λ x y. only (sum y x))
+operation Movhi = row Quiet true true (λ x y. only (sum y (highHalf x)))
+operation Andi = row Mask true true (λ x y. only (bitAnd y x))
 
 -- Each instruction's operation. ANDI is AND, but for its S, which is the constant 0.
 unfoldable pub ofReg : RegOp → Op
@@ -112,7 +112,7 @@ second f y = cond (f .two) y (plain 0)
 abbrev pub perform : Operation → Tv → Tv → ℕ → Cells → Cells
 perform f x y r c =
     setFlags (f .kind) (f .outcome (x .val) (y .val)) (x .mark || y .mark)
-      (cond (f .writes) (putReg r (lift2 (λ a b. f .outcome a b .result) x y) c) c)
+    (cond (f .writes) (putReg r (lift2 (λ a b. f .outcome a b .result) x y) c) c)
 
 unfoldable pub operate : Op → Tv → Tv → ℕ → Cells → Cells
 operate op x y r c = perform (operation op) x (second (operation op) y) r c

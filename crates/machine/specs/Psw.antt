@@ -87,18 +87,23 @@ rules z s ov cy sat = record { z = z; s = s; ov = ov; cy = cy; sat = sat }
 
 unfoldable pub rulesOf : Kind → Rules
 --                        Z        S        OV       CY       SAT
-rulesOf Quiet    = rules kept     kept     kept     kept     kept
-rulesOf Logic    = rules computed computed constant kept     kept
-rulesOf Mask     = rules computed constant constant kept     kept
-rulesOf Shift    = rules computed computed constant computed kept
-rulesOf Divide   = rules computed computed computed kept     kept
-rulesOf Arith    = rules computed computed computed computed kept
+rulesOf Quiet = rules kept kept kept kept kept
+rulesOf Logic = rules computed computed constant kept kept
+rulesOf Mask = rules computed constant constant kept kept
+rulesOf Shift = rules computed computed constant computed kept
+rulesOf Divide = rules computed computed computed kept kept
+rulesOf Arith = rules computed computed computed computed kept
 rulesOf Saturate = rules computed computed computed computed raised
 
 abbrev pub followAll : Rules → Flags → Flags → Flags
 followAll r old new =
-    record { z = follow (r .z) (old .z) (new .z); s = follow (r .s) (old .s) (new .s); ov = follow (r .ov) (old .ov) (new .ov)
-           ; cy = follow (r .cy) (old .cy) (new .cy); sat = follow (r .sat) (old .sat) (new .sat) }
+    record {
+      z = follow (r .z) (old .z) (new .z);
+      s = follow (r .s) (old .s) (new .s);
+      ov = follow (r .ov) (old .ov) (new .ov);
+      cy = follow (r .cy) (old .cy) (new .cy);
+      sat = follow (r .sat) (old .sat) (new .sat);
+    }
 
 -- what a result says of each flag: saturation, that it overflowed
 abbrev pub told : Computed → Flags

@@ -49,7 +49,7 @@ unused map k = eqb (base map k) 0 && (eqb (offset map k) 0 && eqb (rights map k)
 abbrev pub bounded : List ℕ → ℕ → ℕ → Bool
 bounded map n k =
     eqb (base map k % 4) 0 && (eqb (size map k % 4) 0
-      && (leb (base map k + size map k) (2 ^ 24) && (leb (offset map k + size map k) n && leb (rights map k) 7)))
+    && (leb (base map k + size map k) (2 ^ 24) && (leb (offset map k + size map k) n && leb (rights map k) 7)))
 
 unfoldable pub goodRegion : List ℕ → ℕ → ℕ → Bool
 goodRegion map n k = cond (eqb (size map k) 0) (unused map k) (bounded map n k)
@@ -62,9 +62,9 @@ apart a l b m = leb (a + l) b || leb (b + m) a
 unfoldable pub separate : List ℕ → ℕ → ℕ → Bool
 separate map j k =
     eqb (size map j) 0 || (eqb (size map k) 0
-      || (apart (base map j) (size map j) (base map k) (size map k) && apart (offset map j) (size map j) (offset map k) (size map k)))
+    || (apart (base map j) (size map j) (base map k) (size map k) && apart (offset map j) (size map j) (offset map k) (size map k)))
 
 unfoldable pub goodMap : List ℕ → ℕ → Bool
 goodMap map n =
     goodRegion map n 0 && (goodRegion map n 1 && (goodRegion map n 2 && (goodRegion map n 3
-      && (separate map 0 1 && (separate map 0 2 && (separate map 0 3 && (separate map 1 2 && (separate map 1 3 && separate map 2 3))))))))
+    && (separate map 0 1 && (separate map 0 2 && (separate map 0 3 && (separate map 1 2 && (separate map 1 3 && separate map 2 3))))))))
