@@ -5,16 +5,15 @@ ghost use Prim.Native.Nat.{_-_, _%_, _<_};
 ghost use lib.Dec.{ltb, leb};
 ghost use Rattle.word.specs.Word.{W};
 ghost use Rattle.insn.specs.Coding.{half, regCode, bitCode, short, twoOf, isReg, isUnsigned, multiple, encode};
-
-use crate::decode;
 use crate::BitOp;
 use crate::Encoded;
-use crate::Imm16Op;
 use crate::Imm5Op;
+use crate::Imm16Op;
 use crate::Insn;
 use crate::RegOp;
 use crate::ShiftOp;
 use crate::Size;
+use crate::decode;
 
 // The halfwords of an instruction, or FIELD exactly if an operand is out of its range.
 pub fn encode(i: Insn) -> Encoded
@@ -27,11 +26,31 @@ pub fn encode(i: Insn) -> Encoded
         Insn::Sld { size, disp, reg2 } => sld(size, disp, reg2),
         Insn::Sst { size, disp, reg2 } => sst(size, disp, reg2),
         Insn::Bcond { cond, disp } => bcond(cond, disp),
-        Insn::Imm16 { op, imm, reg1, reg2 } => imm16(op, imm, reg1, reg2),
-        Insn::Ld { size, disp, reg1, reg2 } => ld(size, disp, reg1, reg2),
-        Insn::St { size, disp, reg1, reg2 } => st(size, disp, reg1, reg2),
+        Insn::Imm16 {
+            op,
+            imm,
+            reg1,
+            reg2,
+        } => imm16(op, imm, reg1, reg2),
+        Insn::Ld {
+            size,
+            disp,
+            reg1,
+            reg2,
+        } => ld(size, disp, reg1, reg2),
+        Insn::St {
+            size,
+            disp,
+            reg1,
+            reg2,
+        } => st(size, disp, reg1, reg2),
         Insn::Jarl { disp, reg2 } => jarl(disp, reg2),
-        Insn::Bit { op, bit, disp, reg1 } => bit_insn(op, bit, disp, reg1),
+        Insn::Bit {
+            op,
+            bit,
+            disp,
+            reg1,
+        } => bit_insn(op, bit, disp, reg1),
         Insn::Setf { cond, reg2 } => setf(cond, reg2),
         Insn::Ldsr { reg2, regid } => ldsr(reg2, regid),
         Insn::Stsr { regid, reg2 } => stsr(regid, reg2),
@@ -98,7 +117,12 @@ fn sst(size: Size, disp: u32, reg2: u32) -> Encoded
     match size {
         Size::Byte => short(0b011100, disp < 128, disp, reg2),
         Size::Half => short(0b100100, is_unsigned_multiple(2, disp), disp / 2, reg2),
-        Size::Word => short(0b101000, is_unsigned_multiple(4, disp), disp / 4 * 2 + 1, reg2),
+        Size::Word => short(
+            0b101000,
+            is_unsigned_multiple(4, disp),
+            disp / 4 * 2 + 1,
+            reg2,
+        ),
     }
 }
 
@@ -168,7 +192,12 @@ fn jarl(disp: u32, reg2: u32) -> Encoded
         return Encoded::Field;
     }
     let bits = disp % 4194304;
-    two(reg2, 0b111100 + bits / 2097152, bits / 65536 % 32, disp % 65536)
+    two(
+        reg2,
+        0b111100 + bits / 2097152,
+        bits / 65536 % 32,
+        disp % 65536,
+    )
 }
 
 fn bit_insn(op: BitOp, bit: u32, disp: u32, reg1: u32) -> Encoded
