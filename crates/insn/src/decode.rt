@@ -261,7 +261,7 @@ fn bit_op(n: u32) -> BitOp
 }
 
 // System numbers that LDSR takes.
-pub fn loads(regid: u32) -> bool
+pub(crate) fn loads(regid: u32) -> bool
     ensures { λ r. ⌜ r ≡ loads regid ⌝ }
 {
     regid < 4 || regid == 5

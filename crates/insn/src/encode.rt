@@ -89,15 +89,16 @@ fn imm5(op: Imm5Op, imm: u32, reg2: u32) -> Encoded
 {
     let signed = is_signed(16, imm);
     let plain = imm < 32;
+    let field = imm % 32;
     match op {
-        Imm5Op::Mov5 => short_imm(0b010000, signed, imm, reg2),
-        Imm5Op::Satadd5 => short_imm(0b010001, signed, imm, reg2),
-        Imm5Op::Add5 => short_imm(0b010010, signed, imm, reg2),
-        Imm5Op::Cmp5 => short_imm(0b010011, signed, imm, reg2),
-        Imm5Op::Shr5 => short_imm(0b010100, plain, imm, reg2),
-        Imm5Op::Sar5 => short_imm(0b010101, plain, imm, reg2),
-        Imm5Op::Shl5 => short_imm(0b010110, plain, imm, reg2),
-        Imm5Op::Mulh5 => short_imm(0b010111, signed, imm, reg2),
+        Imm5Op::Mov5 => short(0b010000, signed, field, reg2),
+        Imm5Op::Satadd5 => short(0b010001, signed, field, reg2),
+        Imm5Op::Add5 => short(0b010010, signed, field, reg2),
+        Imm5Op::Cmp5 => short(0b010011, signed, field, reg2),
+        Imm5Op::Shr5 => short(0b010100, plain, field, reg2),
+        Imm5Op::Sar5 => short(0b010101, plain, field, reg2),
+        Imm5Op::Shl5 => short(0b010110, plain, field, reg2),
+        Imm5Op::Mulh5 => short(0b010111, signed, field, reg2),
     }
 }
 
@@ -278,21 +279,7 @@ fn half(reg2: u32, opcode: u32, reg1: u32) -> u16
     (reg2 * 2048 + (opcode * 32 + reg1)) as u16
 }
 
-// A first halfword alone, with an immediate that is in its range, or is not.
-fn short_imm(opcode: u32, ok: bool, imm: u32, reg2: u32) -> Encoded
-    requires { ⌜ opcode < 64 ⌝ }
-    ensures { λ r. ⌜ r ≡ cond (ok && isReg reg2) (Encoded.One (half reg2 opcode (imm % 32))) Encoded.Field ⌝ }
-{
-    if !ok {
-        return Encoded::Field;
-    }
-    if 32 <= reg2 {
-        return Encoded::Field;
-    }
-    Encoded::One(half(reg2, opcode, imm % 32))
-}
-
-// The same, with a field of seven bits that is kept in two places.
+// One halfword, with a field of up to seven bits that opcode and reg1 share; ok tells whether its operand is in range.
 fn short(opcode: u32, ok: bool, field: u32, reg2: u32) -> Encoded
     requires { ⌜ (opcode < 60) × (ok ≡ true → field < 128) ⌝ }
     ensures { λ r. ⌜ r ≡ cond (ok && isReg reg2) (short opcode field reg2) Encoded.Field ⌝ }
@@ -306,7 +293,7 @@ fn short(opcode: u32, ok: bool, field: u32, reg2: u32) -> Encoded
     Encoded::One(half(reg2, opcode + field / 32, field % 32))
 }
 
-// Two halfwords, with a second one that is in its range, or is not.
+// Two halfwords; ok tells whether the operand in the second one is in range.
 fn long(opcode: u32, ok: bool, w: u32, reg1: u32, reg2: u32) -> Encoded
     requires { ⌜ (opcode < 64) × (ok ≡ true → w < 65536) ⌝ }
     ensures { λ r. ⌜ r ≡ cond (ok && (isReg reg1 && isReg reg2)) (twoOf reg2 opcode reg1 w) Encoded.Field ⌝ }
@@ -323,7 +310,7 @@ fn long(opcode: u32, ok: bool, w: u32, reg1: u32, reg2: u32) -> Encoded
     two(reg2, opcode, reg1, w)
 }
 
-// Two halfwords.
+// Two halfwords, by their fields.
 fn two(reg2: u32, opcode: u32, reg1: u32, w: u32) -> Encoded
     requires { ⌜ (reg2 < 32) × (opcode < 64) × (reg1 < 32) × (w < 65536) ⌝ }
     ensures { λ r. ⌜ r ≡ twoOf reg2 opcode reg1 w ⌝ }
@@ -345,7 +332,7 @@ fn is_signed_even(half: u32, n: u32) -> bool
     is_signed(half, n) && n % 2 == 0
 }
 
-// A number of 8 bits that a unit divides.
+// A number of 8 bits, and a multiple.
 fn is_unsigned_multiple(unit: u32, n: u32) -> bool
     requires { ⌜ 0 < unit ⌝ }
     ensures { λ r. ⌜ r ≡ (isUnsigned 8 n && multiple unit n) ⌝ }

@@ -1,7 +1,7 @@
 -- Each arm computes; the last one is 3, since the number is below 4.
 use mathlib.Core.Path.{_≡_}
 use native.Mathlib.Omega.{arith}
-use Rattle.insn.specs.Coding.{bitOp, decode}
+use Rattle.insn.specs.Coding.{bitOp}
 use Rattle.insn.proofs.decode.bit_op.Statement.{statement}
 use Rattle.insn.proofs.decode.bit_op.Tie as tie
 

@@ -1,6 +1,5 @@
 -- The code's two tests are the definition's.
 use borrow.Author.Tests.{lt-ltb, le-ltb}
-use Rattle.insn.specs.Coding.{decode}
 use Rattle.insn.proofs.decode.loads.Statement.{statement}
 use Rattle.insn.proofs.decode.loads.Tie as tie
 

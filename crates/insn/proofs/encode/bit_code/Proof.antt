@@ -1,7 +1,7 @@
 -- Each arm computes.
 use mathlib.Core.Path.{refl}
 use lib.Dec.{lit<}
-use Rattle.insn.specs.Coding.{bitCode, encode}
+use Rattle.insn.specs.Coding.{bitCode}
 use borrow.Author.Needs.{needs}
 use Rattle.insn.proofs.encode.bit_code.Statement.{statement}
 use Rattle.insn.proofs.encode.bit_code.Tie as tie

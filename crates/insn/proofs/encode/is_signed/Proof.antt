@@ -1,6 +1,5 @@
 -- A word above the complement of half is a negative one.
 use borrow.Author.Tests.{lt-ltb, le-ltb}
-use Rattle.insn.specs.Coding.{encode}
 use Rattle.insn.proofs.Ranges.{above}
 use Rattle.insn.proofs.encode.is_signed.Statement.{statement}
 use Rattle.insn.proofs.encode.is_signed.Tie as tie

@@ -1,6 +1,5 @@
 -- The code's two tests are the definition's.
 use mathlib.Core.Path.{_∙_, sym}
-use Rattle.insn.specs.Coding.{encode}
 use borrow.Author.Needs.{needs}
 use Rattle.insn.proofs.encode.is_signed_even.Statement.{statement}
 use Rattle.insn.proofs.encode.is_signed_even.Tie as tie

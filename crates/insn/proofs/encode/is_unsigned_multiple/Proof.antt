@@ -1,6 +1,5 @@
 -- The code's two tests are the definition's.
 use borrow.Author.Tests.{lt-ltb, le-ltb}
-use Rattle.insn.specs.Coding.{encode}
 use borrow.Author.Needs.{needs}
 use Rattle.insn.proofs.encode.is_unsigned_multiple.Statement.{statement}
 use Rattle.insn.proofs.encode.is_unsigned_multiple.Tie as tie

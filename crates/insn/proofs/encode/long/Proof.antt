@@ -1,7 +1,6 @@
 -- Each refusal is a part of the range that fails.
 use native.Mathlib.Omega.{arith}
 use borrow.Author.Tests.{lt-ltb, le-ltb, not-true, not-false}
-use Rattle.insn.specs.Coding.{encode}
 use Rattle.insn.proofs.encode.long.Statement.{statement}
 use Rattle.insn.proofs.encode.long.Tie as tie
 

@@ -1,7 +1,7 @@
 -- Each arm computes.
 use mathlib.Core.Path.{refl}
 use lib.Dec.{lit<}
-use Rattle.insn.specs.Coding.{regCode, encode}
+use Rattle.insn.specs.Coding.{regCode}
 use borrow.Author.Needs.{needs}
 use Rattle.insn.proofs.encode.reg_code.Statement.{statement}
 use Rattle.insn.proofs.encode.reg_code.Tie as tie

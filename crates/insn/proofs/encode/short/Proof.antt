@@ -1,7 +1,6 @@
 -- Each refusal is a part of the range that fails; a field in its range fits its two places.
 use native.Mathlib.Omega.{arith}
 use borrow.Author.Tests.{lt-ltb, le-ltb, not-true, not-false}
-use Rattle.insn.specs.Coding.{encode}
 use borrow.Author.Needs.{needs}
 use Rattle.insn.proofs.encode.short.Statement.{statement}
 use Rattle.insn.proofs.encode.short.Tie as tie
