@@ -1,6 +1,6 @@
 // From halfwords to instructions.
 ghost use mathlib.Core.Path.{_≡_};
-ghost use Prim.Native.Nat.{_<_};
+ghost use Prim.Native.Nat.{ℕ, _≤_, _<_};
 ghost use Rattle.insn.specs.Coding.{long, bitOp, loads, when, disp7, disp9, disp22, decodeExtended, decodeFields, decode};
 use crate::BitOp;
 use crate::Decoded;
@@ -27,16 +27,48 @@ pub fn decode(first: u16, second: u16) -> Decoded
     fields(h / 2048, h / 32 % 64, h % 32, second as u32)
 }
 
-// By the opcode.
+// By the opcode: up to 101111 the short forms, which do not look at the second halfword, then the long ones. Parting them so, and
+// the short ones again, lets the compiler follow each opcode to its work by one jump.
 fn fields(reg2: u32, opcode: u32, reg1: u32, w: u32) -> Decoded
     requires { ⌜ (reg2 < 32) × (opcode < 64) × (reg1 < 32) × (w < 65536) ⌝ }
     ensures { λ r. ⌜ r ≡ decodeFields reg2 opcode reg1 w ⌝ }
 {
     match opcode {
+        0b000000..=0b101111 => short(reg2, opcode, reg1),
+        _ => long(reg2, opcode, reg1, w),
+    }
+}
+
+fn short(reg2: u32, opcode: u32, reg1: u32) -> Decoded
+    requires { ⌜ (reg2 < 32) × (opcode ≤ 0b101111) × (reg1 < 32) ⌝ }
+    ensures { λ r. ⌜ ((w : ℕ) → r ≡ decodeFields reg2 opcode reg1 w) ⌝ }
+{
+    match opcode {
+        0b000000..=0b010111 => operation(reg2, opcode, reg1),
+        0b011000..=0b101011 => transfer(reg2, opcode, reg1),
+        _ => Decoded::Valid(Insn::Bcond {
+            cond: reg1 % 16,
+            disp: disp9(reg2, opcode, reg1),
+        }),
+    }
+}
+
+// 000000-010111: register and register, JMP, and 5-bit immediates.
+fn operation(reg2: u32, opcode: u32, reg1: u32) -> Decoded
+    requires { ⌜ (reg2 < 32) × (opcode ≤ 0b010111) × (reg1 < 32) ⌝ }
+    ensures { λ r. ⌜ ((w : ℕ) → r ≡ decodeFields reg2 opcode reg1 w) ⌝ }
+{
+    match opcode {
         0b000000 => reg(RegOp::Mov, reg1, reg2),
         0b000001 => reg(RegOp::Not, reg1, reg2),
         0b000010 => reg(RegOp::Divh, reg1, reg2),
-        0b000011 => when(reg2 == 0, Insn::Jmp { reg1 }),
+        0b000011 => {
+            if reg2 == 0 {
+                Decoded::Valid(Insn::Jmp { reg1 })
+            } else {
+                Decoded::Undefined
+            }
+        }
         0b000100 => reg(RegOp::Satsubr, reg1, reg2),
         0b000101 => reg(RegOp::Satsub, reg1, reg2),
         0b000110 => reg(RegOp::Satadd, reg1, reg2),
@@ -57,11 +89,24 @@ fn fields(reg2: u32, opcode: u32, reg1: u32, w: u32) -> Decoded
         0b010101 => imm5(Imm5Op::Sar5, extend::zero5(reg1), reg2),
         0b010110 => imm5(Imm5Op::Shl5, extend::zero5(reg1), reg2),
         0b010111 => imm5(Imm5Op::Mulh5, extend::sign5(reg1), reg2),
+        // no opcode is left
+        _ => Decoded::Undefined,
+    }
+}
+
+// 011000-101011: short loads and stores.
+fn transfer(reg2: u32, opcode: u32, reg1: u32) -> Decoded
+    requires { ⌜ (reg2 < 32) × (0b011000 ≤ opcode) × (opcode ≤ 0b101011) × (reg1 < 32) ⌝ }
+    ensures { λ r. ⌜ ((w : ℕ) → r ≡ decodeFields reg2 opcode reg1 w) ⌝ }
+{
+    match opcode {
+        // these opcodes are gone
+        0b000000..=0b010111 => Decoded::Undefined,
         0b011000..=0b011011 => sld(Size::Byte, disp7(opcode, reg1), reg2),
         0b011100..=0b011111 => sst(Size::Byte, disp7(opcode, reg1), reg2),
         0b100000..=0b100011 => sld(Size::Half, disp7(opcode, reg1) * 2, reg2),
         0b100100..=0b100111 => sst(Size::Half, disp7(opcode, reg1) * 2, reg2),
-        0b101000..=0b101011 => {
+        _ => {
             let disp = disp7(opcode, reg1) / 2 * 4;
             if reg1 % 2 == 0 {
                 sld(Size::Word, disp, reg2)
@@ -69,10 +114,15 @@ fn fields(reg2: u32, opcode: u32, reg1: u32, w: u32) -> Decoded
                 sst(Size::Word, disp, reg2)
             }
         }
-        0b101100..=0b101111 => Decoded::Valid(Insn::Bcond {
-            cond: reg1 % 16,
-            disp: disp9(reg2, opcode, reg1),
-        }),
+    }
+}
+
+// 110000-111111: the forms with a second halfword.
+fn long(reg2: u32, opcode: u32, reg1: u32, w: u32) -> Decoded
+    requires { ⌜ (reg2 < 32) × (0b110000 ≤ opcode) × (opcode < 64) × (reg1 < 32) × (w < 65536) ⌝ }
+    ensures { λ r. ⌜ r ≡ decodeFields reg2 opcode reg1 w ⌝ }
+{
+    match opcode {
         0b110000 => imm16(Imm16Op::Addi, extend::sign16(w), reg1, reg2),
         0b110001 => imm16(Imm16Op::Movea, extend::sign16(w), reg1, reg2),
         0b110010 => imm16(Imm16Op::Movhi, extend::zero16(w), reg1, reg2),
@@ -97,13 +147,16 @@ fn fields(reg2: u32, opcode: u32, reg1: u32, w: u32) -> Decoded
                 st(Size::Word, extend::sign16(w - 1), reg1, reg2)
             }
         }
-        0b111100..=0b111101 => when(
-            w % 2 == 0,
-            Insn::Jarl {
-                disp: disp22(opcode, reg1, w),
-                reg2,
-            },
-        ),
+        0b111100..=0b111101 => {
+            if w % 2 == 0 {
+                Decoded::Valid(Insn::Jarl {
+                    disp: disp22(opcode, reg1, w),
+                    reg2,
+                })
+            } else {
+                Decoded::Undefined
+            }
+        }
         0b111110 => Decoded::Valid(Insn::Bit {
             op: bit_op(reg2 / 8),
             bit: reg2 % 8,
