@@ -15,8 +15,8 @@ const char *kind_name(enum kind kind)
     return name[kind];
 }
 
-/* Of each 32 numbers in a row, so many for each kind. */
-static const uint8_t share[KINDS] = {1, 2, 2, 1, 1, 3, 6, 4, 10, 2};
+/* Of each 32 numbers in a row, so many for each kind: 300,000 cases have every first halfword. */
+static const uint8_t share[KINDS] = {1, 2, 2, 1, 1, 3, 7, 4, 9, 2};
 
 /* The kind of a case, and how many of that kind came before. */
 static enum kind kind_of(uint64_t number, uint64_t *turn)
@@ -154,7 +154,7 @@ static void fill_in(struct start *s, struct tried *tried, uint64_t turn)
     case SEVERAL: several(s); break;
     case RESETS: resets(s); break;
     case REQUESTS: requests(s); break;
-    case RAW: raw(s, turn); break;
+    case RAW: raw(s, turn); tried->word = (uint16_t)turn; break;
     case EXTENDED: extended(s); break;
     case PROGRAM: program(s); break;
     default: single_instruction(s); break;
@@ -164,7 +164,7 @@ static void fill_in(struct start *s, struct tried *tried, uint64_t turn)
 struct tried make_case(struct start *s, uint64_t seed, uint64_t number)
 {
     uint64_t turn = 0;
-    struct tried tried = {kind_of(number, &turn), 0};
+    struct tried tried = {kind_of(number, &turn), 0, 0};
     dice_start(seed, number);
     if (tried.kind == SIZES) {
         sizes(s);

@@ -20,10 +20,11 @@ enum kind {
 
 const char *kind_name(enum kind kind);
 
-/* What the case tried: for MAPS and STATES the edit. */
+/* What the case tried: for MAPS and STATES the edit, for RAW the first halfword. */
 struct tried {
     enum kind kind;
     uint32_t edit;
+    uint16_t word;
 };
 
 struct tried make_case(struct start *s, uint64_t seed, uint64_t number);

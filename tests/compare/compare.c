@@ -3,8 +3,8 @@
  * of block, memory, marks and report; and the library beside itself with other
  * secrets. The region view is no exported function, so it is not compared.
  *
- *   compare [cases=N] [seed=S] [from=N]   compare N cases
- *   compare case=N [seed=S]               one case, and show everything of it
+ *   compare [cases=N] [seed=S] [from=N] [brief]   compare N cases
+ *   compare case=N [seed=S]                       one case, and show everything of it
  */
 #include <stdio.h>
 #include <stdlib.h>
@@ -110,12 +110,15 @@ static bool option(const char *word, const char *name, uint64_t *value)
 
 int main(int argc, char **argv)
 {
-    uint64_t cases = 200000, from = 0, one = UINT64_MAX;
+    uint64_t cases = 100000, from = 0, one = UINT64_MAX;
+    bool brief = false;
     for (int k = 1; k < argc; k++) {
         if (option(argv[k], "cases=", &cases) || option(argv[k], "seed=", &seed) ||
             option(argv[k], "from=", &from) || option(argv[k], "case=", &one))
             continue;
-        fprintf(stderr, "usage: compare [cases=N] [seed=S] [from=N] [case=N]\n");
+        brief = strcmp(argv[k], "brief") == 0;
+        if (brief) continue;
+        fprintf(stderr, "usage: compare [cases=N] [seed=S] [from=N] [brief] | case=N [seed=S]\n");
         return 2;
     }
     if (one != UINT64_MAX) {
@@ -127,7 +130,7 @@ int main(int argc, char **argv)
     }
     for (uint64_t number = from; number < from + cases; number++)
         if (!one_case(number)) return 1;
-    tally_print();
+    if (!brief) tally_print();
     if (!tally_complete()) return 1;
     printf("%llu cases from seed %llu: no difference\n", (unsigned long long)cases, (unsigned long long)seed);
     return 0;

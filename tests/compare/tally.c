@@ -26,6 +26,10 @@ void tally_end(struct tried tried, uint32_t answer, uint32_t steps)
     tally.answer[tried.kind][answer]++;
     if (tried.kind == MAPS) tally.map_edit[tried.edit][answer]++;
     if (tried.kind == STATES) tally.state_edit[tried.edit][answer]++;
+    if (tried.kind == RAW && !tally.word[tried.word]) {
+        tally.word[tried.word] = true;
+        tally.words++;
+    }
     tally.steps += steps;
     if (tried.kind == PROGRAM) tally.program_steps += steps;
     if (steps > tally.longest) tally.longest = steps;
@@ -72,6 +76,7 @@ void tally_print(void)
 {
     print_answers();
     print_stats();
+    printf("%9llu different first halfwords\n", (big)tally.words);
     printf("%9llu steps, the longest run %llu, a program's %llu on average; %llu starts with budget 0, %llu at FFFFFEH,\n"
            "%9llu without memory, %llu with 65,536 bytes, %llu with mark bytes of 2 to 255; %llu pairs with other secrets\n",
            (big)tally.steps, (big)tally.longest, (big)(tally.program_steps / (tally.cases[PROGRAM] + 1)), (big)tally.no_budget, (big)tally.at_top, (big)tally.no_memory,
@@ -114,6 +119,7 @@ bool tally_complete(void)
     demand(tally.stats.nmi, "NMI", "accepted");
     demand(tally.stats.maskable, "maskable request", "accepted");
     demand(tally.stats.illegal, "illegal code", "taken");
+    demand(tally.words == 0x10000, "some", "first halfword");
     demand(tally.no_budget, "budget", "0");
     demand(tally.at_top, "PC", "FFFFFEH");
     demand(tally.no_memory, "memory", "of 0 bytes");

@@ -10,6 +10,8 @@ struct tally {
     uint64_t answer[KINDS][11];
     uint64_t map_edit[64][11], state_edit[64][11]; /* by answer too */
     uint64_t steps, program_steps, longest, pairs;
+    bool word[0x10000];
+    uint64_t words; /* different first halfwords */
     uint64_t at_top, no_budget, no_memory, full_memory, odd_marks;
     struct second_stats stats;
 };

@@ -1,7 +1,7 @@
 #!/usr/bin/env bash
 # The comparison once per seeded fault of the second program that shows through run or reset: each must be found.
 # A second column tells which of them two runs with other secrets find by themselves, in the faulty program alone.
-# Prints a table; called by 'make teeth', which sets X86, SECOND, BUILD, LIBRARY and CFLAGS.
+# Prints docs/FAULTS-FOUND.md; called by 'make teeth', which sets X86, SECOND, BUILD, LIBRARY and CFLAGS.
 set -euo pipefail
 export LC_ALL=C
 cases=${TEETH_CASES:-300000}
@@ -35,6 +35,15 @@ build() {
 first_case() { sed -n 's/^DIFFERENCE in case \([0-9]*\) .*/\1/p' "$1" | grep . || echo -; }
 
 found=0 missed=0 unseen=()
+cat <<END
+# What the comparison finds
+
+The second program with one deliberate fault at a time (\`tests/second/FAULTS.md\`), beside the library. "Found in case" is
+the first case of seed 1 in which answer or bytes differ; the seconds are those of the run up to there$([ -z "$("$X86" runner)" ] || echo ", under emulation"). The last column
+is another test: the faulty program beside itself with other secrets, $secret_cases cases, and the first in which a secret shows. Most
+faults let no secret out, and have a dash there. \`make teeth\` prints this page.
+
+END
 echo "| Fault | What is wrong | Found in case | Seconds | Other secrets show in case |"
 echo "|---|---|---|---|---|"
 while IFS=$'\t' read -r n what seen; do
