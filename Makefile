@@ -80,7 +80,7 @@ run:
 test:
 	@$(X86) setup native
 	@$(SUB) header
-	@$(SUB) -C tests/second test BUILD=$(CURDIR)/target/second
+	@$(SUB) -s -C tests/second test BUILD=$(CURDIR)/target/second
 	@$(SUB) -C tests/compare self
 ifneq ($(LIBRARY),)
 	@$(SUB) compare

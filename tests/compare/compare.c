@@ -27,7 +27,7 @@ static struct start start, left, right;
 static bool found(uint64_t number, struct tried tried, const char *what)
 {
     printf("DIFFERENCE in case %llu (%s): %s\n", (unsigned long long)number, kind_name(tried.kind), what);
-    printf("again: compare seed=%llu case=%llu\n", (unsigned long long)seed, (unsigned long long)number);
+    printf("again with: seed=%llu case=%llu\n", (unsigned long long)seed, (unsigned long long)number);
     return false;
 }
 

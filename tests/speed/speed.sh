@@ -41,6 +41,7 @@ check() {
     [ "$(tr -s ' \n' ' ' <<<"$want")" = "$(tr -s ' \n' ' ' <<<"$got")" ] || { printf '%s ends differently:\n%s\n%s\n' "$1" "$want" "$got"; return 1; }
 }
 
+run_ns() { "$X86" run "$speed" "$1" images/alu.bin "$2" 100 2000 | field ns; }
 ns() { "$X86" run "$speed" "$1" "images/$2.bin" $size $budget $tries | field ns; }
 
 printf '%-8s %26s %8s   %26s %8s\n' image "ns a step$emulated" ratio "instructions a step" ratio
@@ -53,8 +54,10 @@ for image in $images; do
     [ "$image" != alu ] || { ours=$c theirs=$d; }
 done
 echo
-echo "A run of 100 steps of alu, in instructions, and what of it is not steps (entry and exit):"
+echo "A run of 100 steps of alu, and what of its instructions is not steps (entry and exit):"
 for memory in 4096 65536; do
     a=$(run_cost v850 $memory) b=$(run_cost second $memory)
-    printf '%6s bytes of memory: v850 %s (%s), second %s (%s)\n' $memory "$a" "$(per 1 "$(ratio "$ours" 0.01)" "$a")" "$b" "$(per 1 "$(ratio "$theirs" 0.01)" "$b")"
+    printf '%6s bytes of memory: v850 %s instructions (%s), %s ns%s; second %s (%s), %s ns\n' $memory \
+        "$a" "$(per 1 "$(ratio "$ours" 0.01)" "$a")" "$(run_ns v850 $memory)" "$emulated" \
+        "$b" "$(per 1 "$(ratio "$theirs" 0.01)" "$b")" "$(run_ns second $memory)"
 done
