@@ -4,8 +4,8 @@
  *
  * The host owns everything. It lends four byte buffers for the time of a call:
  * the state block, the memory, the marks of the memory, and a report. The
- * library keeps nothing between calls, asks for no memory and calls nothing,
- * so calls on different buffers may run side by side.
+ * library keeps nothing between calls, so calls on different buffers may run
+ * side by side.
  *
  * What the host owes, and no call can test:
  *  - each pointer is valid and not null, also where its length is 0;

@@ -95,12 +95,13 @@ static void several(struct start *s)
     if (one_in(3)) wrong_length(s);
 }
 
-/* The block's bytes are anything, or a good state under a good map. */
+/* Any bytes, mostly in front of a good map, so that the run after the reset goes on. */
 static void resets(struct start *s)
 {
     static const size_t block[] = {0, 1, 171, 172, 235, 237, 300};
+    const size_t end = one_in(8) ? V850_BLOCK_LEN : V850_AT_REGION(0);
+    for (size_t at = 0; at < end && !one_in(400); at++) set_byte(s, at, dice(256));
     if (one_in(4)) start_resize(s, BLOCK, ONE_OF(block));
-    else if (one_in(2)) any_state(s);
     s->budget = dice(4);
 }
 

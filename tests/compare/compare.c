@@ -31,10 +31,12 @@ static bool found(uint64_t number, struct tried tried, const char *what)
     return false;
 }
 
-static void show(const char *title, uint32_t answer, struct start *s)
+static void show(const char *title, const uint32_t *answer, struct start *s)
 {
     if (!showing) return;
-    printf("%s: answer %u %s\n", title, (unsigned)answer, second_answer_name(answer));
+    printf("%s:", title);
+    if (answer != NULL) printf(" answer %u %s", (unsigned)*answer, second_answer_name(*answer));
+    printf("\n");
     show_start(s);
 }
 
@@ -48,8 +50,8 @@ static bool same_bytes(uint64_t number, struct tried tried, const char *what)
 static bool same_reset(uint64_t number, struct tried tried)
 {
     const uint32_t a = reset_on(&library, &left), b = reset_on(&second, &right);
-    show("after reset, library", a, &left);
-    show("after reset, second", b, &right);
+    show("after reset, library", &a, &left);
+    show("after reset, second", &b, &right);
     if (a != b) return found(number, tried, "the answers of reset");
     return same_bytes(number, tried, "the block after reset");
 }
@@ -60,8 +62,8 @@ static bool same_run(uint64_t number, struct tried tried, uint32_t *answer)
     second_stats = &tally.stats;
     const uint32_t b = run_on(&second, &right, start.budget);
     second_stats = NULL;
-    show("library", a, &left);
-    show("second", b, &right);
+    show("library", &a, &left);
+    show("second", &b, &right);
     *answer = b;
     if (a != b) return found(number, tried, "the answers");
     return same_bytes(number, tried, "what was written");
@@ -74,9 +76,9 @@ static bool same_public(uint64_t number, struct tried tried, uint32_t answer)
     start_copy(&right, &start);
     if (!other_secrets(&right)) return true;
     tally.pairs++;
-    show("with other secrets", 0, &right);
+    show("with other secrets", NULL, &right);
     const uint32_t other = run_on(&library, &right, start.budget);
-    show("with other secrets, after", other, &right);
+    show("library with other secrets", &other, &right);
     if (other != answer) return found(number, tried, "other secrets, another answer");
     what = shown(&left, &right);
     if (what == NULL) return true;
@@ -90,7 +92,7 @@ static bool one_case(uint64_t number)
     uint32_t answer = 0;
     start_copy(&left, &start);
     start_copy(&right, &start);
-    if (showing) show_start(&start);
+    show("start", NULL, &start);
     if (tried.kind == RESETS && !same_reset(number, tried)) return false;
     if (tried.kind == RESETS) start_copy(&start, &left);
     tally_start(&start, tried);
@@ -124,7 +126,6 @@ int main(int argc, char **argv)
     if (one != UINT64_MAX) {
         showing = true;
         const bool same = one_case(one);
-        (void)make_case(&start, seed, one);
         show_parting(&start, &library, &second);
         return !same;
     }

@@ -72,10 +72,24 @@ static void print_stats(void)
            (big)tally.stats.maskable, (big)tally.stats.illegal);
 }
 
+/* How often an edit was refused, and how often it was not: an edge that is never good tests half a rule. */
+static void print_edits(uint64_t edit[][11], uint32_t count, uint32_t refusal)
+{
+    printf("edits %s / not:", second_answer_name(refusal));
+    for (uint32_t k = 0; k < count; k++) {
+        uint64_t sum = 0;
+        for (uint32_t a = 0; a < 11; a++) sum += edit[k][a];
+        printf(" %u:%llu/%llu", (unsigned)k, (big)edit[k][refusal], (big)(sum - edit[k][refusal]));
+    }
+    printf("\n");
+}
+
 void tally_print(void)
 {
     print_answers();
     print_stats();
+    print_edits(tally.map_edit, MAP_EDITS, SECOND_MAP);
+    print_edits(tally.state_edit, STATE_EDITS, SECOND_STATE);
     printf("%9llu different first halfwords\n", (big)tally.words);
     printf("%9llu steps, the longest run %llu, a program's %llu on average; %llu starts with budget 0, %llu at FFFFFEH,\n"
            "%9llu without memory, %llu with 65,536 bytes, %llu with mark bytes of 2 to 255; %llu pairs with other secrets\n",

@@ -1,7 +1,7 @@
 #!/usr/bin/env bash
 # The comparison once per seeded fault of the second program that shows through run or reset: each must be found.
 # A second column tells which of them two runs with other secrets find by themselves, in the faulty program alone.
-# Prints docs/FAULTS-FOUND.md; called by 'make teeth', which sets X86, SECOND, BUILD, LIBRARY and CFLAGS.
+# Prints docs/FAULTS-FOUND.md; called by 'make teeth', which sets X86, SECOND, BUILD, LIBRARY, CFLAGS, OWN and THEIRS.
 set -euo pipefail
 export LC_ALL=C
 cases=${TEETH_CASES:-300000}
@@ -19,8 +19,10 @@ build() {
     [ "$way" = x86 ] || from=$BUILD/self
     local holds
     holds=$(cd "$SECOND" && grep -l "FAULT_IS($n)" ./*.[ch])
-    for file in "$from"/second/*.o; do
-        name=$(basename "$file" .o)
+    for name in $OWN; do objects+=("$from/${name%.c}.o"); done
+    for name in $THEIRS; do
+        name=${name%.c}
+        file=$from/second/$name.o
         if grep -q '\.h$' <<<"$holds" || grep -qx "./$name.c" <<<"$holds"; then
             "$@" $CFLAGS -DFAULT="$n" -c -o "$dir/$way/$name.o" "$SECOND/$name.c"
             file=$dir/$way/$name.o
@@ -28,7 +30,7 @@ build() {
         objects+=("$file")
     done
     [ "$way" != x86 ] || objects+=(-static "$LIBRARY")
-    "$@" -o "$dir/$way/compare" "$from"/*.o "${objects[@]}"
+    "$@" -o "$dir/$way/compare" "${objects[@]}"
 }
 
 # The number of the first case that differs, or '-'.
