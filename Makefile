@@ -1,12 +1,91 @@
-# Two commands: `make run` does the main job, `make test` passes the tests. Both set up what they need.
+# `make run` does the main job, `make test` passes the tests; both set up what they need.
+#
+#   all       prove the library and write target/staticlib/libv850.a
+#   compare   the library beside the second program; CASES=N SEED=S for more or other cases
+#   example   the example host, its output against the stored one
+#   teeth     the comparison with each seeded fault; prints docs/FAULTS-FOUND.md
+#   speed     ns and instructions a step
+#   bench     the small program on standard input
+#   install   library, header and v850.pc under PREFIX
 export LC_ALL := C
 
-.PHONY: run test
+PREFIX ?= /usr/local
+WARN := -Wall -Wextra -Wpedantic -Wconversion -Werror
+X86 := tests/tools/x86
+SUB := $(MAKE) --no-print-directory
+
+# LIBRARY=FILE takes a ready archive with the same entries in the place of ours.
+# While crates.txt does not list the crate there is none, and what needs one is passed over or refused.
+ifneq ($(LIBRARY),)
+override LIBRARY := $(abspath $(LIBRARY))
+library:
+	@test -f $(LIBRARY)
+else ifneq ($(shell grep '^v850:' crates.txt),)
+LIBRARY := $(CURDIR)/target/staticlib/libv850.a
+library:
+	@rt staticlib v850 >&2
+else
+library:
+	@echo "crates.txt does not list v850 yet, so there is no library" >&2; exit 1
+endif
+
+.PHONY: all library setup header compare example teeth speed bench install clean run test
+
+all: library
+
+setup:
+	@$(X86) setup
+
+# The header by itself, as C and, where there is a compiler for it, as C++.
+header:
+	@cc -std=c11 $(WARN) -fsyntax-only -x c include/v850.h
+	@! command -v c++ >/dev/null || c++ -std=c++17 $(WARN) -fsyntax-only -x c++ include/v850.h
+
+compare: setup library
+	@$(SUB) -C tests/compare run LIBRARY=$(LIBRARY)
+
+example: setup header library
+	@mkdir -p target/example
+	@$(X86) cc -std=c11 -O2 $(WARN) -Iinclude -static -o target/example/host examples/host.c $(LIBRARY)
+	@$(X86) run target/example/host >target/example/host.out
+	@diff examples/host.expected target/example/host.out
+	@echo "examples/host: as expected"
+
+teeth: setup library
+	@$(SUB) -C tests/compare teeth LIBRARY=$(LIBRARY)
+
+speed: setup library
+	@$(SUB) -C tests/speed run LIBRARY=$(LIBRARY)
+
+# The program of document 01: an image on standard input, one line on standard output.
+bench:
+	@if grep -q '^bench:' crates.txt; then tools/run bench; \
+	else echo "crates.txt does not list bench yet; this will run target/bin/bench on standard input" >&2; fi
+
+install: library
+	install -d $(DESTDIR)$(PREFIX)/lib/pkgconfig $(DESTDIR)$(PREFIX)/include
+	install -m 644 $(LIBRARY) $(DESTDIR)$(PREFIX)/lib/libv850.a
+	install -m 644 include/v850.h $(DESTDIR)$(PREFIX)/include/v850.h
+	sed 's|@PREFIX@|$(PREFIX)|' v850.pc.in >$(DESTDIR)$(PREFIX)/lib/pkgconfig/v850.pc
+
+clean:
+	rm -rf target tests/second/build
 
 # The main job: for now, every first halfword is decoded and encoded again.
 run:
 	@tools/run insn_walk
 
-# The gate: every crate is proved, every must-fail edit refused, every program run.
+# The gate: the second program's own test, the comparison with itself and with the library; then every crate is
+# proved, every must-fail edit refused, every program run. The last line is rt's.
 test:
+	@$(X86) setup native
+	@$(SUB) header
+	@$(SUB) -s -C tests/second test BUILD=$(CURDIR)/target/second
+	@$(SUB) -C tests/compare self
+ifneq ($(LIBRARY),)
+	@$(SUB) compare
+	@$(SUB) example
+else
+	@echo "crates.txt does not list v850 yet: nothing is compared with the library"
+endif
 	@rt ci
