@@ -1,0 +1,1 @@
+// The entries that a host calls.
