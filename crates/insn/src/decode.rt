@@ -1,7 +1,8 @@
 // From halfwords to instructions.
 ghost use mathlib.Core.Path.{_≡_};
 ghost use Prim.Native.Nat.{_<_};
-ghost use Rattle.insn.specs.Coding.{long, decodeExtended, decodeFields, decode};
+ghost use lib.Dec.{eqb};
+ghost use Rattle.insn.specs.Coding.{long, bitOp, loads, when, disp7, disp9, disp22, decodeExtended, decodeFields, decode};
 
 use crate::BitOp;
 use crate::Decoded;
@@ -156,14 +157,107 @@ fn extended(reg2: u32, reg1: u32, w: u32) -> Decoded
         0x0120 => bare(reg2 + reg1, Insn::Halt),
         0x0140 => bare(reg2 + reg1, Insn::Reti),
         0x0160 => {
-            if reg2 == 0 {
-                bare(reg1, Insn::Di)
-            } else if reg2 == 16 {
+            if reg2 == 16 {
                 bare(reg1, Insn::Ei)
             } else {
-                Decoded::Undefined
+                bare(reg2 + reg1, Insn::Di)
             }
         }
         _ => Decoded::Undefined,
     }
+}
+
+// Instructions with several operations or sizes.
+fn reg(op: RegOp, reg1: u32, reg2: u32) -> Decoded
+    ensures { λ r. ⌜ r ≡ Decoded.Valid (Insn.Reg op reg1 reg2) ⌝ }
+{
+    Decoded::Valid(Insn::Reg { op, reg1, reg2 })
+}
+
+fn imm5(op: Imm5Op, imm: u32, reg2: u32) -> Decoded
+    ensures { λ r. ⌜ r ≡ Decoded.Valid (Insn.Imm5 op imm reg2) ⌝ }
+{
+    Decoded::Valid(Insn::Imm5 { op, imm, reg2 })
+}
+
+fn sld(size: Size, disp: u32, reg2: u32) -> Decoded
+    ensures { λ r. ⌜ r ≡ Decoded.Valid (Insn.Sld size disp reg2) ⌝ }
+{
+    Decoded::Valid(Insn::Sld { size, disp, reg2 })
+}
+
+fn sst(size: Size, disp: u32, reg2: u32) -> Decoded
+    ensures { λ r. ⌜ r ≡ Decoded.Valid (Insn.Sst size disp reg2) ⌝ }
+{
+    Decoded::Valid(Insn::Sst { size, disp, reg2 })
+}
+
+fn imm16(op: Imm16Op, imm: u32, reg1: u32, reg2: u32) -> Decoded
+    ensures { λ r. ⌜ r ≡ Decoded.Valid (Insn.Imm16 op imm reg1 reg2) ⌝ }
+{
+    Decoded::Valid(Insn::Imm16 { op, imm, reg1, reg2 })
+}
+
+fn ld(size: Size, disp: u32, reg1: u32, reg2: u32) -> Decoded
+    ensures { λ r. ⌜ r ≡ Decoded.Valid (Insn.Ld size disp reg1 reg2) ⌝ }
+{
+    Decoded::Valid(Insn::Ld { size, disp, reg1, reg2 })
+}
+
+fn st(size: Size, disp: u32, reg1: u32, reg2: u32) -> Decoded
+    ensures { λ r. ⌜ r ≡ Decoded.Valid (Insn.St size disp reg1 reg2) ⌝ }
+{
+    Decoded::Valid(Insn::St { size, disp, reg1, reg2 })
+}
+
+// An instruction whose other fields are all 0.
+fn bare(others: u32, i: Insn) -> Decoded
+    ensures { λ r. ⌜ r ≡ when (eqb others 0) i ⌝ }
+{
+    if others == 0 {
+        Decoded::Valid(i)
+    } else {
+        Decoded::Undefined
+    }
+}
+
+// Displacements that are kept in two fields.
+fn disp7(opcode: u32, reg1: u32) -> u32
+    requires { ⌜ reg1 < 32 ⌝ }
+    ensures { λ r. ⌜ r ≡ disp7 opcode reg1 ⌝ }
+{
+    opcode % 4 * 32 + reg1
+}
+
+fn disp9(reg2: u32, opcode: u32, reg1: u32) -> u32
+    requires { ⌜ (reg2 < 32) × (reg1 < 32) ⌝ }
+    ensures { λ r. ⌜ r ≡ disp9 reg2 opcode reg1 ⌝ }
+{
+    extend::sign9(reg2 * 16 + (opcode % 4 * 2 + reg1 / 16) * 2)
+}
+
+fn disp22(opcode: u32, reg1: u32, w: u32) -> u32
+    requires { ⌜ (reg1 < 32) × (w < 65536) ⌝ }
+    ensures { λ r. ⌜ r ≡ disp22 opcode reg1 w ⌝ }
+{
+    extend::sign22((opcode % 2 * 32 + reg1) * 65536 + w)
+}
+
+fn bit_op(n: u32) -> BitOp
+    requires { ⌜ n < 4 ⌝ }
+    ensures { λ r. ⌜ r ≡ bitOp n ⌝ }
+{
+    match n {
+        0b00 => BitOp::Set1,
+        0b01 => BitOp::Not1,
+        0b10 => BitOp::Clr1,
+        _ => BitOp::Tst1,
+    }
+}
+
+// System numbers that LDSR takes.
+pub fn loads(regid: u32) -> bool
+    ensures { λ r. ⌜ r ≡ loads regid ⌝ }
+{
+    regid < 4 || regid == 5
 }

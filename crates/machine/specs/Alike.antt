@@ -18,9 +18,10 @@ bitCells i = eqb i (sys EIPSW) || (eqb i (sys FEPSW) || eqb i (sys PSW))
 abbrev pub noBitCells : ℕ → Bool
 noBitCells i = false
 
--- The same sizes, the same marks, and the same number wherever there is no mark: for the cells by bits, the same bit
+-- The same sizes, with a mark for each number, the same marks, and the same number wherever there is no mark: for the cells by bits, the same bit
 pub record Alike (byBits : ℕ → Bool) (c d : Cells) : Type 0 where
   pub sizes : length (c .nums) ≡ length (d .nums)
+  pub whole : length (c .nums) ≡ length (c .marks)
   pub marks : c .marks ≡ d .marks
   pub values : (i : ℕ) → byBits i ≡ false → marked (getD (c .marks) i 0) ≡ false → getD (c .nums) i 0 ≡ getD (d .nums) i 0
   pub bits : (i k : ℕ) → byBits i ≡ true → k < 8 → bit k (getD (c .marks) i 0) ≡ false → bit k (getD (c .nums) i 0) ≡ bit k (getD (d .nums) i 0)

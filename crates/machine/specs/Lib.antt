@@ -6,5 +6,9 @@ pub mod Operations
 pub mod Step
 pub mod Run
 pub mod WellFormed
+pub mod InvariantLaws
+pub mod Invariants
 pub mod Alike
+pub mod AlikeLaws
+pub mod Secrecy
 pub mod Samples

@@ -1,10 +1,5 @@
 // The machine: its state, one step of it, and a run.
 
-pub mod cells;
-pub mod memory;
-pub mod operations;
-pub mod psw;
-pub mod regions;
 
 // A value with its mark.
 pub struct Tv {

@@ -3,6 +3,7 @@ pub mod Sums
 pub mod Shifts
 pub mod Products
 pub mod Extend
+pub mod Bounds
 pub mod Flags
 pub mod Tests
 pub mod FlagLaws

@@ -1,0 +1,45 @@
+-- The tests of encoding: what a test that held says of an operand, and how the code's tests agree with the definition's.
+use mathlib.Core.Path.{_≡_, refl, sym, _∙_}
+use mathlib.Core.Bool.{Bool, true, false, _&&_, _||_, false≢true}
+use mathlib.Core.Logic.{_⊎_, ⊎-elim, inl, inr}
+use Prim.Native.Nat.{ℕ, _-_, _%_, _≤_, _<_, _^_}
+use native.Mathlib.Omega.{arith}
+use lib.Dec.{eqb, ltb, leb}
+use borrow.Author.Tests.{lt-ltb, ltb-true, ltb-false, le-leb, lt-leb, eqb-true}
+use Rattle.word.specs.Word.{W}
+use Rattle.insn.specs.Coding.{isUnsigned, multiple, loads}
+
+and-true : (b : Bool) → b && true ≡ b
+and-true true = refl
+and-true false = refl
+
+same-test : (p q r s : ℕ) (b : Bool) → ltb p q ≡ b → (p < q → r ≤ s) → (q ≤ p → s < r) → ltb p q ≡ leb r s
+same-test p q r s true e f g = e ∙ sym (le-leb r s (f (ltb-true p q e)))
+same-test p q r s false e f g = e ∙ sym (lt-leb r s (g (ltb-false p q e)))
+
+-- a word above the complement of half is negative, and not below -half
+pub above : (half n : ℕ) → half < W → n < W → ltb (2 ^ 32 - 1 - half) n ≡ (leb (W - half) n && ltb n W)
+above half n a b =
+    rw (lt-ltb n W b, and-true) (same-test (2 ^ 32 - 1 - half) n (W - half) n _ refl (λ h. omega arith) (λ h. omega arith))
+
+left-of : (a b : Bool) → a && b ≡ true → a ≡ true
+left-of true b e = refl
+left-of false b e = e
+
+right-of : (a b : Bool) → a && b ≡ true → b ≡ true
+right-of true b e = e
+right-of false b e = absurd (false≢true e)
+
+one-of : (a b : Bool) → a || b ≡ true → (a ≡ true) ⊎ (b ≡ true)
+one-of true b e = inl refl
+one-of false b e = inr e
+
+-- what a test that held says of an operand
+pub below-256 : (unit n : ℕ) {r : Bool} → r ≡ (isUnsigned 8 n && multiple unit n) → r ≡ true → n < 256
+below-256 unit n e h = ltb-true n 256 (left-of (isUnsigned 8 n) (multiple unit n) (sym e ∙ h))
+
+pub even : (half n : ℕ) {r : Bool} → r ≡ ((ltb n half || (leb (W - half) n && ltb n W)) && multiple 2 n) → r ≡ true → n % 2 ≡ 0
+even half n e h = eqb-true (n % 2) 0 (right-of (ltb n half || (leb (W - half) n && ltb n W)) (multiple 2 n) (sym e ∙ h))
+
+pub loads-below : (n : ℕ) {r : Bool} → r ≡ loads n → r ≡ true → n < 6
+loads-below n e h = ⊎-elim (λ a. omega (arith, ltb-true n 4 a)) (λ a. omega (arith, eqb-true n 5 a)) (one-of (ltb n 4) (eqb n 5) (sym e ∙ h))
