@@ -1,1 +1,3 @@
-// The entries that a host calls.
+// The entries that a host calls. Each tests its own arguments, and needs nothing of its caller.
+
+pub mod block;
