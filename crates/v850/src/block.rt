@@ -108,6 +108,7 @@ pub fn good_state(ws: &[u32; 59]) -> bool
 
 // Taken apart: the map.
 pub fn map_in(ws: &[u32; 59]) -> [u32; 16]
+    requires { ⌜ length (now ws) ≡ WORDS ⌝ }
     ensures { λ r. ⌜ r ≡ mapIn (now (ws .entry)) ⌝ }
 {
     let mut map = [0u32; 16];
@@ -139,6 +140,7 @@ pub fn core_in(ws: &[u32; 59]) -> Open
 
 // The numbers of the cells.
 pub fn nums_in(ws: &[u32; 59]) -> [u32; 38]
+    requires { ⌜ length (now ws) ≡ WORDS ⌝ }
     ensures { λ r. ⌜ r ≡ numsIn (now (ws .entry)) ⌝ }
 {
     let mut cells = [0u32; 38];
@@ -213,7 +215,7 @@ fn sys_marks(tags: &[u8; 38]) -> u32
 
 // All words.
 pub fn words_of(o: Open, cells: &[u32; 38], tags: &[u8; 38], map: &[u32; 16]) -> [u32; 59]
-    requires { ⌜ WellFormed o (both (now cells) (now tags)) ⌝ }
+    requires { ⌜ WellFormed o (both (now cells) (now tags)) × (length (now map) ≡ 16) ⌝ }
     ensures { λ r. ⌜ r ≡ wordsOf o (both (now (cells .entry)) (now (tags .entry))) (now (map .entry)) ⌝ }
 {
     let mut ws = [0u32; 59];
@@ -255,7 +257,7 @@ fn put_word(b: &mut [u8], i: usize, w: u32)
 
 // All words, as bytes.
 pub fn put_words(block: &mut [u8], ws: &[u32; 59])
-    requires { ⌜ length (now block) ≡ BYTES ⌝ }
+    requires { ⌜ (length (now block) ≡ BYTES) × (length (now ws) ≡ WORDS) ⌝ }
     ensures { λ _. ⌜ now (block .exit) ≡ bytesOf (now (ws .entry)) ⌝ }
 {
     let mut i: usize = 0;
