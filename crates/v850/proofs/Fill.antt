@@ -110,3 +110,43 @@ marks-turn m i b r h z l p q =
         ap (λ (x : ℕ). x + 2 * r) p ∙ ap (λ (x : ℕ). getD m (i - 1) 0 + 2 * x) (q ∙ ap (λ (k : ℕ). packBits (drop k (take 32 m))) (sym e))
         ∙ pack-more m (i - 1) h (omega arith) in
     (g, subst (λ (x : ℕ). x < 2 ^ 32) (sym g) (pack-word m (i - 1) h))
+
+-- the eleven words between the registers and the map: PSW and the words of marks are computed
+pub eleven-stored : (l s map : List ℕ) (pc psw psw′ eipc eipsw fepc fepsw ecr code waits regs regs′ marks marks′ : ℕ)
+    → length l ≡ 59 → length map ≡ 16 → take 32 l ≡ s → psw ≡ psw′ → regs ≡ regs′ → marks ≡ marks′
+    → take 43
+        (set (set (set (set (set (set (set (set (set (set (set l 32 pc) 33 psw) 34 eipc) 35 eipsw) 36 fepc) 37 fepsw) 38 ecr) 39 code) 40 waits) 41 regs) 42 marks)
+        ++ take 16 map
+      ≡ s ++ (pc ∷ psw′ ∷ eipc ∷ eipsw ∷ fepc ∷ fepsw ∷ ecr ∷ code ∷ waits ∷ regs′ ∷ marks′ ∷ map)
+eleven-stored l s map pc psw psw′ eipc eipsw fepc fepsw ecr code waits regs regs′ marks marks′ h n p e f g =
+    rw (e, f, g, take-all 16 map (omega arith),
+      stored-part (pc ∷ psw′ ∷ eipc ∷ eipsw ∷ fepc ∷ fepsw ∷ ecr ∷ code ∷ waits ∷ regs′ ∷ marks′ ∷ []) l 32 43 (omega arith) refl, p)
+    (append-assoc s (pc ∷ psw′ ∷ eipc ∷ eipsw ∷ fepc ∷ fepsw ∷ ecr ∷ code ∷ waits ∷ regs′ ∷ marks′ ∷ []) map)
+
+-- the words up to the map, and k words of the map
+abbrev withMap : List ℕ → List ℕ → ℕ → List ℕ
+withMap l map n = take 43 l ++ take (n - 43) map
+
+pub record Mapped (l₀ map : List ℕ) (k : ℕ) (l : List ℕ) : Type 0 where
+  pub below : k ≤ 16
+  pub filled : Filled (withMap l₀ map) 59 59 (43 + k) l
+
+pub mapped-none : (l map : List ℕ) → length l ≡ 59 → Mapped l map 0 l
+mapped-none l map h =
+    record { below = omega arith; filled = record { below = omega arith; long = h; first = sym (append-nil (take 43 l)) } }
+
+pub mapped-next : {l₀ l : List ℕ} (map : List ℕ) (k : ℕ) → k < 16 → length map ≡ 16 → Mapped l₀ map k l → Mapped l₀ map (k + 1) (set l (43 + k) (getD map k 0))
+mapped-next {l₀} {l} map k h n p = record { below = omega arith; filled = next }
+  where
+    more : withMap l₀ map (suc (43 + k)) ≡ withMap l₀ map (43 + k) ++ (getD map k 0 ∷ [])
+    more =
+        let a : suc (43 + k) - 43 ≡ suc k = omega arith in
+        let b : 43 + k - 43 ≡ k = omega arith in
+        rw (a, b, take-more map k (omega arith)) (sym (append-assoc (take 43 l₀) (take k map) (getD map k 0 ∷ [])))
+    next : Filled (withMap l₀ map) 59 59 (43 + (k + 1)) (set l (43 + k) (getD map k 0))
+    next =
+        subst (λ (j : ℕ). Filled (withMap l₀ map) 59 59 j (set l (43 + k) (getD map k 0))) {x = 43 + k + 1} {y = 43 + (k + 1)} (omega arith)
+        (filled-next (withMap l₀ map) 59 59 (43 + k) _ _ l (omega arith) (omega arith) more refl (p .filled))
+
+pub mapped-all : {l₀ l : List ℕ} (map : List ℕ) (k : ℕ) → 16 ≤ k → Mapped l₀ map k l → l ≡ take 43 l₀ ++ take 16 map
+mapped-all {l₀} {l} map k h p = filled-all (withMap l₀ map) 59 (43 + k) l (omega arith) (p .filled)

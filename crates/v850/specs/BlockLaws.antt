@@ -9,7 +9,10 @@ use lib.Dec.{ltb}
 use lib.Pow.{pow-mono}
 use lib.ListN.{length, getD, take, drop, set, length-take, length-append, List·getD-eq-default}
 use lib.Seq.{length-take-le, getD-take, getD-drop, slice-cons, take-suc, length-slice}
-use borrow.Author.Tests.{ltb-true, ltb-false}
+use borrow.Author.Tests.{ltb-true, ltb-false, lt-ltb}
+use Rattle.machine.specs.declared.Open.{Open}
+use Rattle.machine.specs.Marked.{Cells, both}
+use Rattle.machine.specs.WellFormed.{WellFormed, limit, markLimit}
 use Rattle.machine.specs.Psw.{sys, EIPC, EIPSW, FEPC, FEPSW, PSW}
 use Rattle.v850.specs.Block.{bytesOfWord, bytesOf, wordAt, wordsFrom, bitsFrom, packBits, BYTES, WORDS}
 
@@ -19,6 +22,13 @@ pub record Marks (m : List ℕ) : Type 0 where
   pub regs : (i : ℕ) → i < 32 → getD m i 0 < 2
   pub eipc : getD m (sys EIPC) 0 < 2
   pub fepc : getD m (sys FEPC) 0 < 2
+
+pub formed-marks : {o : Open} {c : Cells} → WellFormed o c → Marks (c .marks)
+formed-marks {o} {c} w =
+    record { long = w .marks; regs = λ i h. reg-mark i h (w .small-marks i); eipc = w .small-marks 32; fepc = w .small-marks 34 }
+  where
+    reg-mark : (i : ℕ) → i < 32 → getD (c .marks) i 0 < markLimit i → getD (c .marks) i 0 < 2
+    reg-mark i h l = simp (lt-ltb i 32 h) at l
 
 -- the word of the system registers' marks
 abbrev pub sysMarks : List ℕ → ℕ
