@@ -7,7 +7,8 @@ use native.Mathlib.Numerals.{add-one}
 use lib.ListN.{length, getD, take, drop, set, length-set, length-drop, length-append, drop-of-length-le}
 use lib.Seq.{length-take-le, take-all, take-at, drop-at, drop-drop, take-suc, take-suc-set, getD-drop, sets, length-sets, sets-eq}
 use Rattle.v850.specs.Block.{bytesOfWord, bytesOf, wordAt, wordsFrom, bitsFrom, packBits}
-use Rattle.v850.specs.BlockLaws.{Marks, bytes-more, bytes-length, pack-more, pack-word}
+use Rattle.v850.specs.PackLaws.{bytes-more, bytes-length}
+use Rattle.v850.specs.BlockLaws.{Marks, pack-more, pack-word}
 
 -- i of n elements are written; the array l has room for size
 pub record Filled (f : ℕ → List ℕ) (size n i : ℕ) (l : List ℕ) : Type 0 where

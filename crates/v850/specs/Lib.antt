@@ -1,3 +1,4 @@
 pub mod Block
+pub mod PackLaws
 pub mod BlockLaws
 pub mod Entry
