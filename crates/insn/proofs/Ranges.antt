@@ -2,7 +2,7 @@
 use mathlib.Core.Path.{_≡_, refl, sym, _∙_}
 use mathlib.Core.Bool.{Bool, true, false, _&&_, _||_, false≢true}
 use mathlib.Core.Logic.{_⊎_, ⊎-elim, inl, inr}
-use Prim.Native.Nat.{ℕ, _-_, _%_, _≤_, _<_, _^_}
+use Prim.Native.Nat.{ℕ, _-_, _/_, _%_, _≤_, _<_, _^_}
 use native.Mathlib.Omega.{arith}
 use lib.Dec.{eqb, ltb, leb}
 use borrow.Author.Tests.{lt-ltb, ltb-true, ltb-false, le-leb, lt-leb, eqb-true}
@@ -43,3 +43,7 @@ even half n e h = eqb-true (n % 2) 0 (right-of (ltb n half || (leb (W - half) n 
 
 pub loads-below : (n : ℕ) {r : Bool} → r ≡ loads n → r ≡ true → n < 6
 loads-below n e h = ⊎-elim (λ a. omega (arith, ltb-true n 4 a)) (λ a. omega (arith, eqb-true n 5 a)) (one-of (ltb n 4) (eqb n 5) (sym e ∙ h))
+
+-- a field of five bits has nothing in the opcode
+pub no-high : (n : ℕ) → n % 32 / 32 ≡ 0
+no-high n = omega arith

@@ -1,8 +1,9 @@
--- The arms of decoding: what a number of the opcode, or one of a range, stands for, and then what the second halfword of opcode 111111
--- does. Each is found by computing at the number. An operand n is given by an equation, so that whoever computed it can say how.
-use mathlib.Core.Path.{_≡_, refl, ap, _∙_}
+-- The arms of decoding: what a number of the opcode, or one of a range, stands for; then what the second halfword of opcode 111111 does.
+-- Each is found by computing at the number. An operand n is given by an equation, so that whoever computed it can say how.
+use mathlib.Core.Path.{_≡_, refl}
 use mathlib.Core.Bool.{Bool, true, false, cond, _&&_}
-use Prim.Native.Nat.{ℕ, zero, suc, _+_, _-_, _*_, _/_, _%_, _^_, _≤_, _<_}
+use mathlib.Core.List.{List, [], _∷_}
+use Prim.Native.Nat.{ℕ, zero, suc, _+_, _*_, _/_, _%_, _^_, _≤_, _<_}
 use native.Mathlib.Nat.{zero-add}
 use native.Mathlib.Omega.{arith}
 use borrow.Author.Tests.{le-leb, lt-leb, eq-eqb, ne-eqb}
@@ -22,7 +23,10 @@ use Rattle.insn.specs.declared.Decoded.{Decoded}
 use Rattle.insn.specs.declared.Decoded.the-variants.{Valid, Illegal, Undefined}
 
 module _ (reg2 reg1 w : ℕ) where
-  pub at-reg : (op : RegOp) {opcode : ℕ} → opcode ≡ regCode op → Valid (Reg op reg1 reg2) ≡ decodeFields reg2 opcode reg1 w
+  abbrev At : ℕ → Decoded
+  At opcode = decodeFields reg2 opcode reg1 w
+
+  pub at-reg : (op : RegOp) {opcode : ℕ} → opcode ≡ regCode op → Valid (Reg op reg1 reg2) ≡ At opcode
   unfolding decodeFields regOp regCode
   at-reg Mov k = rw k
   at-reg Not k = rw k
@@ -40,7 +44,7 @@ module _ (reg2 reg1 w : ℕ) where
   at-reg Add k = rw k
   at-reg Cmp k = rw k
 
-  pub at-imm5 : (op : Imm5Op) {opcode n : ℕ} → opcode ≡ imm5Code op → n ≡ imm5 op reg1 → Valid (Imm5 op n reg2) ≡ decodeFields reg2 opcode reg1 w
+  pub at-imm5 : (op : Imm5Op) {opcode n : ℕ} → opcode ≡ imm5Code op → n ≡ imm5 op reg1 → Valid (Imm5 op n reg2) ≡ At opcode
   unfolding decodeFields imm5Op imm5Code
   at-imm5 Mov5 k e = rw (k, e)
   at-imm5 Satadd5 k e = rw (k, e)
@@ -51,7 +55,7 @@ module _ (reg2 reg1 w : ℕ) where
   at-imm5 Shl5 k e = rw (k, e)
   at-imm5 Mulh5 k e = rw (k, e)
 
-  pub at-imm16 : (op : Imm16Op) {opcode n : ℕ} → opcode ≡ imm16Code op → n ≡ imm16 op w → Valid (Imm16 op n reg1 reg2) ≡ decodeFields reg2 opcode reg1 w
+  pub at-imm16 : (op : Imm16Op) {opcode n : ℕ} → opcode ≡ imm16Code op → n ≡ imm16 op w → Valid (Imm16 op n reg1 reg2) ≡ At opcode
   unfolding decodeFields imm16Op imm16Code
   at-imm16 Addi k e = rw (k, e)
   at-imm16 Movea k e = rw (k, e)
@@ -62,77 +66,92 @@ module _ (reg2 reg1 w : ℕ) where
   at-imm16 Andi k e = rw (k, e)
   at-imm16 Mulhi k e = rw (k, e)
 
-  -- ranges, from their first number to below the one after
-  pub at-sld-byte : {opcode n : ℕ} → 24 ≤ opcode → opcode < 28 → n ≡ disp7 opcode reg1 → Valid (Sld Byte n reg2) ≡ decodeFields reg2 opcode reg1 w
-  unfolding decodeFields
-  at-sld-byte a b e =
-      rw e (within Unit (λ k. Valid (Sld Byte (disp7 k reg1) reg2) ≡ decodeFields reg2 k reg1 w) 24 4 ((((tt, refl), refl), refl), refl) a b)
+  -- ranges of four opcodes, from lo
+  four :
+      (f : ℕ → Decoded) (lo : ℕ) →
+      f (lo + 0) ≡ At (lo + 0) → f (lo + 1) ≡ At (lo + 1) → f (lo + 2) ≡ At (lo + 2) → f (lo + 3) ≡ At (lo + 3) →
+      {opcode : ℕ} → lo ≤ opcode → opcode < lo + 4 → f opcode ≡ At opcode
+  four f lo p q r s = within Unit (λ k. f k ≡ At k) lo 4 ((((tt, p), q), r), s)
 
-  pub at-sst-byte : {opcode n : ℕ} → 28 ≤ opcode → opcode < 32 → n ≡ disp7 opcode reg1 → Valid (Sst Byte n reg2) ≡ decodeFields reg2 opcode reg1 w
+  pub at-sld-byte : {opcode n : ℕ} → 24 ≤ opcode → opcode < 28 → n ≡ disp7 opcode reg1 → Valid (Sld Byte n reg2) ≡ At opcode
   unfolding decodeFields
-  at-sst-byte a b e =
-      rw e (within Unit (λ k. Valid (Sst Byte (disp7 k reg1) reg2) ≡ decodeFields reg2 k reg1 w) 28 4 ((((tt, refl), refl), refl), refl) a b)
+  at-sld-byte a b e = rw e (four (λ k. Valid (Sld Byte (disp7 k reg1) reg2)) 24 refl refl refl refl a b)
 
-  pub at-sld-half : {opcode n : ℕ} → 32 ≤ opcode → opcode < 36 → n ≡ disp7 opcode reg1 → Valid (Sld Half (n * 2) reg2) ≡ decodeFields reg2 opcode reg1 w
+  pub at-sst-byte : {opcode n : ℕ} → 28 ≤ opcode → opcode < 32 → n ≡ disp7 opcode reg1 → Valid (Sst Byte n reg2) ≡ At opcode
   unfolding decodeFields
-  at-sld-half a b e =
-      rw e (within Unit (λ k. Valid (Sld Half (disp7 k reg1 * 2) reg2) ≡ decodeFields reg2 k reg1 w) 32 4 ((((tt, refl), refl), refl), refl) a b)
+  at-sst-byte a b e = rw e (four (λ k. Valid (Sst Byte (disp7 k reg1) reg2)) 28 refl refl refl refl a b)
 
-  pub at-sst-half : {opcode n : ℕ} → 36 ≤ opcode → opcode < 40 → n ≡ disp7 opcode reg1 → Valid (Sst Half (n * 2) reg2) ≡ decodeFields reg2 opcode reg1 w
+  pub at-sld-half : {opcode n : ℕ} → 32 ≤ opcode → opcode < 36 → n ≡ disp7 opcode reg1 → Valid (Sld Half (n * 2) reg2) ≡ At opcode
   unfolding decodeFields
-  at-sst-half a b e =
-      rw e (within Unit (λ k. Valid (Sst Half (disp7 k reg1 * 2) reg2) ≡ decodeFields reg2 k reg1 w) 36 4 ((((tt, refl), refl), refl), refl) a b)
+  at-sld-half a b e = rw e (four (λ k. Valid (Sld Half (disp7 k reg1 * 2) reg2)) 32 refl refl refl refl a b)
 
-  at-word : {opcode n : ℕ} → 40 ≤ opcode → opcode < 44 → n ≡ disp7 opcode reg1 →
-      Valid (cond (eqb (reg1 % 2) 0) (Sld Word (n / 2 * 4) reg2) (Sst Word (n / 2 * 4) reg2)) ≡ decodeFields reg2 opcode reg1 w
+  pub at-sst-half : {opcode n : ℕ} → 36 ≤ opcode → opcode < 40 → n ≡ disp7 opcode reg1 → Valid (Sst Half (n * 2) reg2) ≡ At opcode
   unfolding decodeFields
-  at-word a b e =
-      rw e (within Unit (λ k. Valid (cond (eqb (reg1 % 2) 0) (Sld Word (disp7 k reg1 / 2 * 4) reg2) (Sst Word (disp7 k reg1 / 2 * 4) reg2)) ≡ decodeFields reg2 k reg1 w)
-      40 4 ((((tt, refl), refl), refl), refl) a b)
+  at-sst-half a b e = rw e (four (λ k. Valid (Sst Half (disp7 k reg1 * 2) reg2)) 36 refl refl refl refl a b)
 
-  pub at-sld-word : {opcode n : ℕ} → 40 ≤ opcode → opcode < 44 → n ≡ disp7 opcode reg1 → reg1 % 2 ≡ 0 → Valid (Sld Word (n / 2 * 4) reg2) ≡ decodeFields reg2 opcode reg1 w
+  abbrev word-form : ℕ → Decoded
+  word-form n = Valid (cond (eqb (reg1 % 2) 0) (Sld Word (n / 2 * 4) reg2) (Sst Word (n / 2 * 4) reg2))
+
+  at-word : {opcode n : ℕ} → 40 ≤ opcode → opcode < 44 → n ≡ disp7 opcode reg1 → word-form n ≡ At opcode
+  unfolding decodeFields
+  at-word a b e = rw e (four (λ k. word-form (disp7 k reg1)) 40 refl refl refl refl a b)
+
+  pub at-sld-word :
+      {opcode n : ℕ} → 40 ≤ opcode → opcode < 44 → n ≡ disp7 opcode reg1 → reg1 % 2 ≡ 0 →
+      Valid (Sld Word (n / 2 * 4) reg2) ≡ At opcode
   at-sld-word a b e even = rw (eq-eqb _ _ even) at (at-word a b e)
 
-  pub at-sst-word : {opcode n : ℕ} → 40 ≤ opcode → opcode < 44 → n ≡ disp7 opcode reg1 → (reg1 % 2 ≡ 0 → ⊥) → Valid (Sst Word (n / 2 * 4) reg2) ≡ decodeFields reg2 opcode reg1 w
+  pub at-sst-word :
+      {opcode n : ℕ} → 40 ≤ opcode → opcode < 44 → n ≡ disp7 opcode reg1 → (reg1 % 2 ≡ 0 → ⊥) →
+      Valid (Sst Word (n / 2 * 4) reg2) ≡ At opcode
   at-sst-word a b e odd = rw (ne-eqb _ _ odd) at (at-word a b e)
 
-  pub at-bcond : {opcode n : ℕ} → 44 ≤ opcode → opcode < 48 → n ≡ disp9 reg2 opcode reg1 → Valid (Bcond (reg1 % 16) n) ≡ decodeFields reg2 opcode reg1 w
+  pub at-bcond : {opcode n : ℕ} → 44 ≤ opcode → opcode < 48 → n ≡ disp9 reg2 opcode reg1 → Valid (Bcond (reg1 % 16) n) ≡ At opcode
   unfolding decodeFields
-  at-bcond a b e =
-      rw e (within Unit (λ k. Valid (Bcond (reg1 % 16) (disp9 reg2 k reg1)) ≡ decodeFields reg2 k reg1 w) 44 4 ((((tt, refl), refl), refl), refl) a b)
+  at-bcond a b e = rw e (four (λ k. Valid (Bcond (reg1 % 16) (disp9 reg2 k reg1))) 44 refl refl refl refl a b)
 
-  at-11110 : {opcode n : ℕ} → 60 ≤ opcode → opcode < 62 → n ≡ disp22 opcode reg1 w → when (eqb (w % 2) 0) (Jarl n reg2) ≡ decodeFields reg2 opcode reg1 w
+  pub at-jarl :
+      {opcode n : ℕ} → 60 ≤ opcode → opcode < 62 → n ≡ disp22 opcode reg1 w → when (eqb (w % 2) 0) (Jarl n reg2) ≡ At opcode
   unfolding decodeFields
-  at-11110 a b e =
-      rw e (within Unit (λ k. when (eqb (w % 2) 0) (Jarl (disp22 k reg1 w) reg2) ≡ decodeFields reg2 k reg1 w) 60 2 ((tt, refl), refl) a b)
+  at-jarl a b e =
+      rw e (within Unit (λ k. when (eqb (w % 2) 0) (Jarl (disp22 k reg1 w) reg2) ≡ At k) 60 2 ((tt, refl), refl) a b)
 
-  pub at-jarl : {opcode n : ℕ} → 60 ≤ opcode → opcode < 62 → n ≡ disp22 opcode reg1 w → w % 2 ≡ 0 → Valid (Jarl n reg2) ≡ decodeFields reg2 opcode reg1 w
-  at-jarl a b e even = rw (eq-eqb _ _ even) at (at-11110 a b e)
+-- opcode 111111. w is none of the numbers, the last one first, in the form that a match leaves
+abbrev pub None : List ℕ → ℕ → Type 0
+None [] w = Unit
+None (k ∷ ks) w = None ks w × (w ≡ k → ⊥)
 
-  pub at-jarl-odd : {opcode : ℕ} → 60 ≤ opcode → opcode < 62 → (w % 2 ≡ 0 → ⊥) → Undefined ≡ decodeFields reg2 opcode reg1 w
-  at-jarl-odd a b odd = rw (ne-eqb _ _ odd) at (at-11110 a b refl)
-
-  -- opcode 111111: the illegal code, and a second halfword that is none of the ten numbers
+module _ (reg2 reg1 w : ℕ) where
   pub at-illegal : 0b0011 ≤ w / 2 ^ 7 % 2 ^ 4 → Illegal ≡ decodeExtended reg2 reg1 w
   unfolding decodeExtended
   at-illegal h = rw (le-leb _ _ h)
 
-  pub at-no-code : w / 2 ^ 7 % 2 ^ 4 < 0b0011 →
-      (w ≡ 0x0000 → ⊥) → (w ≡ 0x0020 → ⊥) → (w ≡ 0x0040 → ⊥) → (w ≡ 0x0080 → ⊥) → (w ≡ 0x00A0 → ⊥) →
-      (w ≡ 0x00C0 → ⊥) → (w ≡ 0x0100 → ⊥) → (w ≡ 0x0120 → ⊥) → (w ≡ 0x0140 → ⊥) → (w ≡ 0x0160 → ⊥) →
+  pub at-none :
+      w / 2 ^ 7 % 2 ^ 4 < 0b0011 →
+      None (0x0160 ∷ 0x0140 ∷ 0x0120 ∷ 0x0100 ∷ 0x00C0 ∷ 0x00A0 ∷ 0x0080 ∷ 0x0040 ∷ 0x0020 ∷ 0x0000 ∷ []) w →
       Undefined ≡ decodeExtended reg2 reg1 w
   unfolding decodeExtended
-  at-no-code h a b c d e f g i j k =
-      rw
-      (lt-leb _ _ h, ne-eqb _ _ a, ne-eqb _ _ b, ne-eqb _ _ c, ne-eqb _ _ d, ne-eqb _ _ e, ne-eqb _ _ f, ne-eqb _ _ g,
-      ne-eqb _ _ i, ne-eqb _ _ j, ne-eqb _ _ k)
+  at-none h n =
+      rw (
+        lt-leb _ _ h,
+        ne-eqb _ _ (n .0 .0 .0 .0 .0 .0 .0 .0 .0 .1),
+        ne-eqb _ _ (n .0 .0 .0 .0 .0 .0 .0 .0 .1),
+        ne-eqb _ _ (n .0 .0 .0 .0 .0 .0 .0 .1),
+        ne-eqb _ _ (n .0 .0 .0 .0 .0 .0 .1),
+        ne-eqb _ _ (n .0 .0 .0 .0 .0 .1),
+        ne-eqb _ _ (n .0 .0 .0 .0 .1),
+        ne-eqb _ _ (n .0 .0 .0 .1),
+        ne-eqb _ _ (n .0 .0 .1),
+        ne-eqb _ _ (n .0 .1),
+        ne-eqb _ _ (n .1),
+      )
 
 -- two fields are both 0 exactly if their sum is
 pub both-zero : (a b : ℕ) → eqb (a + b) 0 ≡ (eqb a 0 && eqb b 0)
 both-zero zero b = rw zero-add
 both-zero (suc a) b = rw (ne-eqb (suc a + b) 0 (λ h. omega arith), ne-eqb (suc a) 0 (λ h. omega arith))
 
--- DI's word, which is EI's if reg2 is 16
+-- DI, if reg2 is not EI's
 both-of : (a b : Bool) (i : Insn) → when (a && b) i ≡ cond a (when b i) Undefined
 both-of true b i = refl
 both-of false b i = refl
@@ -140,7 +159,3 @@ both-of false b i = refl
 pub at-di : (reg2 reg1 : ℕ) → (reg2 ≡ 16 → ⊥) → when (eqb (reg2 + reg1) 0) Di ≡ decodeExtended reg2 reg1 0x0160
 unfolding decodeExtended
 at-di reg2 reg1 h = rw (both-zero, ne-eqb _ _ h) (both-of (eqb reg2 0) (eqb reg1 0) Di)
-
--- opcode 111111 is what is left of the opcodes
-pub last-opcode : {opcode : ℕ} → 62 ≤ opcode → (opcode ≡ 62 → ⊥) → opcode < 64 → opcode ≡ 63
-last-opcode a b c = omega arith

@@ -1,13 +1,11 @@
 // From halfwords to instructions.
 ghost use mathlib.Core.Path.{_≡_};
 ghost use Prim.Native.Nat.{_<_};
-ghost use lib.Dec.{eqb};
 ghost use Rattle.insn.specs.Coding.{long, bitOp, loads, when, disp7, disp9, disp22, decodeExtended, decodeFields, decode};
-
 use crate::BitOp;
 use crate::Decoded;
-use crate::Imm16Op;
 use crate::Imm5Op;
+use crate::Imm16Op;
 use crate::Insn;
 use crate::RegOp;
 use crate::ShiftOp;
@@ -38,13 +36,7 @@ fn fields(reg2: u32, opcode: u32, reg1: u32, w: u32) -> Decoded
         0b000000 => reg(RegOp::Mov, reg1, reg2),
         0b000001 => reg(RegOp::Not, reg1, reg2),
         0b000010 => reg(RegOp::Divh, reg1, reg2),
-        0b000011 => {
-            if reg2 == 0 {
-                Decoded::Valid(Insn::Jmp { reg1: reg1 })
-            } else {
-                Decoded::Undefined
-            }
-        }
+        0b000011 => when(reg2 == 0, Insn::Jmp { reg1 }),
         0b000100 => reg(RegOp::Satsubr, reg1, reg2),
         0b000101 => reg(RegOp::Satsub, reg1, reg2),
         0b000110 => reg(RegOp::Satadd, reg1, reg2),
@@ -77,7 +69,10 @@ fn fields(reg2: u32, opcode: u32, reg1: u32, w: u32) -> Decoded
                 sst(Size::Word, disp, reg2)
             }
         }
-        0b101100..=0b101111 => Decoded::Valid(Insn::Bcond { cond: reg1 % 16, disp: disp9(reg2, opcode, reg1) }),
+        0b101100..=0b101111 => Decoded::Valid(Insn::Bcond {
+            cond: reg1 % 16,
+            disp: disp9(reg2, opcode, reg1),
+        }),
         0b110000 => imm16(Imm16Op::Addi, extend::sign16(w), reg1, reg2),
         0b110001 => imm16(Imm16Op::Movea, extend::sign16(w), reg1, reg2),
         0b110010 => imm16(Imm16Op::Movhi, extend::zero16(w), reg1, reg2),
@@ -102,15 +97,22 @@ fn fields(reg2: u32, opcode: u32, reg1: u32, w: u32) -> Decoded
                 st(Size::Word, extend::sign16(w - 1), reg1, reg2)
             }
         }
-        0b111100..=0b111101 => {
-            if w % 2 == 0 {
-                Decoded::Valid(Insn::Jarl { disp: disp22(opcode, reg1, w), reg2: reg2 })
-            } else {
-                Decoded::Undefined
-            }
-        }
-        0b111110 => Decoded::Valid(Insn::Bit { op: bit_op(reg2 / 8), bit: reg2 % 8, disp: extend::sign16(w), reg1: reg1 }),
-        _ => extended(reg2, reg1, w),
+        0b111100..=0b111101 => when(
+            w % 2 == 0,
+            Insn::Jarl {
+                disp: disp22(opcode, reg1, w),
+                reg2,
+            },
+        ),
+        0b111110 => Decoded::Valid(Insn::Bit {
+            op: bit_op(reg2 / 8),
+            bit: reg2 % 8,
+            disp: extend::sign16(w),
+            reg1,
+        }),
+        0b111111 => extended(reg2, reg1, w),
+        // no opcode is left
+        _ => Decoded::Undefined,
     }
 }
 
@@ -123,47 +125,40 @@ fn extended(reg2: u32, reg1: u32, w: u32) -> Decoded
         return Decoded::Illegal;
     }
     match w {
-        0x0000 => {
-            if reg1 < 16 {
-                Decoded::Valid(Insn::Setf { cond: reg1, reg2: reg2 })
-            } else {
-                Decoded::Undefined
-            }
-        }
-        0x0020 => {
-            if loads(reg2) {
-                Decoded::Valid(Insn::Ldsr { reg2: reg1, regid: reg2 })
-            } else {
-                Decoded::Undefined
-            }
-        }
-        0x0040 => {
-            if reg1 < 6 {
-                Decoded::Valid(Insn::Stsr { regid: reg1, reg2: reg2 })
-            } else {
-                Decoded::Undefined
-            }
-        }
-        0x0080 => Decoded::Valid(Insn::Shift { op: ShiftOp::Shr, reg1: reg1, reg2: reg2 }),
-        0x00A0 => Decoded::Valid(Insn::Shift { op: ShiftOp::Sar, reg1: reg1, reg2: reg2 }),
-        0x00C0 => Decoded::Valid(Insn::Shift { op: ShiftOp::Shl, reg1: reg1, reg2: reg2 }),
-        0x0100 => {
-            if reg2 == 0 {
-                Decoded::Valid(Insn::Trap { vector: reg1 })
-            } else {
-                Decoded::Undefined
-            }
-        }
-        0x0120 => bare(reg2 + reg1, Insn::Halt),
-        0x0140 => bare(reg2 + reg1, Insn::Reti),
+        0x0000 => when(reg1 < 16, Insn::Setf { cond: reg1, reg2 }),
+        0x0020 => when(
+            loads(reg2),
+            Insn::Ldsr {
+                reg2: reg1,
+                regid: reg2,
+            },
+        ),
+        0x0040 => when(reg1 < 6, Insn::Stsr { regid: reg1, reg2 }),
+        0x0080 => shift(ShiftOp::Shr, reg1, reg2),
+        0x00A0 => shift(ShiftOp::Sar, reg1, reg2),
+        0x00C0 => shift(ShiftOp::Shl, reg1, reg2),
+        0x0100 => when(reg2 == 0, Insn::Trap { vector: reg1 }),
+        0x0120 => when(reg2 + reg1 == 0, Insn::Halt),
+        0x0140 => when(reg2 + reg1 == 0, Insn::Reti),
         0x0160 => {
             if reg2 == 16 {
-                bare(reg1, Insn::Ei)
+                when(reg1 == 0, Insn::Ei)
             } else {
-                bare(reg2 + reg1, Insn::Di)
+                when(reg2 + reg1 == 0, Insn::Di)
             }
         }
         _ => Decoded::Undefined,
+    }
+}
+
+// An instruction, if its fields are right.
+fn when(right: bool, i: Insn) -> Decoded
+    ensures { λ r. ⌜ r ≡ when right i ⌝ }
+{
+    if right {
+        Decoded::Valid(i)
+    } else {
+        Decoded::Undefined
     }
 }
 
@@ -195,30 +190,40 @@ fn sst(size: Size, disp: u32, reg2: u32) -> Decoded
 fn imm16(op: Imm16Op, imm: u32, reg1: u32, reg2: u32) -> Decoded
     ensures { λ r. ⌜ r ≡ Decoded.Valid (Insn.Imm16 op imm reg1 reg2) ⌝ }
 {
-    Decoded::Valid(Insn::Imm16 { op, imm, reg1, reg2 })
+    Decoded::Valid(Insn::Imm16 {
+        op,
+        imm,
+        reg1,
+        reg2,
+    })
 }
 
 fn ld(size: Size, disp: u32, reg1: u32, reg2: u32) -> Decoded
     ensures { λ r. ⌜ r ≡ Decoded.Valid (Insn.Ld size disp reg1 reg2) ⌝ }
 {
-    Decoded::Valid(Insn::Ld { size, disp, reg1, reg2 })
+    Decoded::Valid(Insn::Ld {
+        size,
+        disp,
+        reg1,
+        reg2,
+    })
 }
 
 fn st(size: Size, disp: u32, reg1: u32, reg2: u32) -> Decoded
     ensures { λ r. ⌜ r ≡ Decoded.Valid (Insn.St size disp reg1 reg2) ⌝ }
 {
-    Decoded::Valid(Insn::St { size, disp, reg1, reg2 })
+    Decoded::Valid(Insn::St {
+        size,
+        disp,
+        reg1,
+        reg2,
+    })
 }
 
-// An instruction whose other fields are all 0.
-fn bare(others: u32, i: Insn) -> Decoded
-    ensures { λ r. ⌜ r ≡ when (eqb others 0) i ⌝ }
+fn shift(op: ShiftOp, reg1: u32, reg2: u32) -> Decoded
+    ensures { λ r. ⌜ r ≡ Decoded.Valid (Insn.Shift op reg1 reg2) ⌝ }
 {
-    if others == 0 {
-        Decoded::Valid(i)
-    } else {
-        Decoded::Undefined
-    }
+    Decoded::Valid(Insn::Shift { op, reg1, reg2 })
 }
 
 // Displacements that are kept in two fields.
@@ -256,7 +261,7 @@ fn bit_op(n: u32) -> BitOp
 }
 
 // System numbers that LDSR takes.
-pub fn loads(regid: u32) -> bool
+pub(crate) fn loads(regid: u32) -> bool
     ensures { λ r. ⌜ r ≡ loads regid ⌝ }
 {
     regid < 4 || regid == 5

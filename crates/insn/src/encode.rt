@@ -5,16 +5,15 @@ ghost use Prim.Native.Nat.{_-_, _%_, _<_};
 ghost use lib.Dec.{ltb, leb};
 ghost use Rattle.word.specs.Word.{W};
 ghost use Rattle.insn.specs.Coding.{half, regCode, bitCode, short, twoOf, isReg, isUnsigned, multiple, encode};
-
-use crate::decode;
 use crate::BitOp;
 use crate::Encoded;
-use crate::Imm16Op;
 use crate::Imm5Op;
+use crate::Imm16Op;
 use crate::Insn;
 use crate::RegOp;
 use crate::ShiftOp;
 use crate::Size;
+use crate::decode;
 
 // The halfwords of an instruction, or FIELD exactly if an operand is out of its range.
 pub fn encode(i: Insn) -> Encoded
@@ -27,11 +26,31 @@ pub fn encode(i: Insn) -> Encoded
         Insn::Sld { size, disp, reg2 } => sld(size, disp, reg2),
         Insn::Sst { size, disp, reg2 } => sst(size, disp, reg2),
         Insn::Bcond { cond, disp } => bcond(cond, disp),
-        Insn::Imm16 { op, imm, reg1, reg2 } => imm16(op, imm, reg1, reg2),
-        Insn::Ld { size, disp, reg1, reg2 } => ld(size, disp, reg1, reg2),
-        Insn::St { size, disp, reg1, reg2 } => st(size, disp, reg1, reg2),
+        Insn::Imm16 {
+            op,
+            imm,
+            reg1,
+            reg2,
+        } => imm16(op, imm, reg1, reg2),
+        Insn::Ld {
+            size,
+            disp,
+            reg1,
+            reg2,
+        } => ld(size, disp, reg1, reg2),
+        Insn::St {
+            size,
+            disp,
+            reg1,
+            reg2,
+        } => st(size, disp, reg1, reg2),
         Insn::Jarl { disp, reg2 } => jarl(disp, reg2),
-        Insn::Bit { op, bit, disp, reg1 } => bit_insn(op, bit, disp, reg1),
+        Insn::Bit {
+            op,
+            bit,
+            disp,
+            reg1,
+        } => bit_insn(op, bit, disp, reg1),
         Insn::Setf { cond, reg2 } => setf(cond, reg2),
         Insn::Ldsr { reg2, regid } => ldsr(reg2, regid),
         Insn::Stsr { regid, reg2 } => stsr(regid, reg2),
@@ -70,15 +89,16 @@ fn imm5(op: Imm5Op, imm: u32, reg2: u32) -> Encoded
 {
     let signed = is_signed(16, imm);
     let plain = imm < 32;
+    let field = imm % 32;
     match op {
-        Imm5Op::Mov5 => short_imm(0b010000, signed, imm, reg2),
-        Imm5Op::Satadd5 => short_imm(0b010001, signed, imm, reg2),
-        Imm5Op::Add5 => short_imm(0b010010, signed, imm, reg2),
-        Imm5Op::Cmp5 => short_imm(0b010011, signed, imm, reg2),
-        Imm5Op::Shr5 => short_imm(0b010100, plain, imm, reg2),
-        Imm5Op::Sar5 => short_imm(0b010101, plain, imm, reg2),
-        Imm5Op::Shl5 => short_imm(0b010110, plain, imm, reg2),
-        Imm5Op::Mulh5 => short_imm(0b010111, signed, imm, reg2),
+        Imm5Op::Mov5 => short(0b010000, signed, field, reg2),
+        Imm5Op::Satadd5 => short(0b010001, signed, field, reg2),
+        Imm5Op::Add5 => short(0b010010, signed, field, reg2),
+        Imm5Op::Cmp5 => short(0b010011, signed, field, reg2),
+        Imm5Op::Shr5 => short(0b010100, plain, field, reg2),
+        Imm5Op::Sar5 => short(0b010101, plain, field, reg2),
+        Imm5Op::Shl5 => short(0b010110, plain, field, reg2),
+        Imm5Op::Mulh5 => short(0b010111, signed, field, reg2),
     }
 }
 
@@ -98,7 +118,12 @@ fn sst(size: Size, disp: u32, reg2: u32) -> Encoded
     match size {
         Size::Byte => short(0b011100, disp < 128, disp, reg2),
         Size::Half => short(0b100100, is_unsigned_multiple(2, disp), disp / 2, reg2),
-        Size::Word => short(0b101000, is_unsigned_multiple(4, disp), disp / 4 * 2 + 1, reg2),
+        Size::Word => short(
+            0b101000,
+            is_unsigned_multiple(4, disp),
+            disp / 4 * 2 + 1,
+            reg2,
+        ),
     }
 }
 
@@ -168,7 +193,12 @@ fn jarl(disp: u32, reg2: u32) -> Encoded
         return Encoded::Field;
     }
     let bits = disp % 4194304;
-    two(reg2, 0b111100 + bits / 2097152, bits / 65536 % 32, disp % 65536)
+    two(
+        reg2,
+        0b111100 + bits / 2097152,
+        bits / 65536 % 32,
+        disp % 65536,
+    )
 }
 
 fn bit_insn(op: BitOp, bit: u32, disp: u32, reg1: u32) -> Encoded
@@ -249,21 +279,7 @@ fn half(reg2: u32, opcode: u32, reg1: u32) -> u16
     (reg2 * 2048 + (opcode * 32 + reg1)) as u16
 }
 
-// A first halfword alone, with an immediate that is in its range, or is not.
-fn short_imm(opcode: u32, ok: bool, imm: u32, reg2: u32) -> Encoded
-    requires { ⌜ opcode < 64 ⌝ }
-    ensures { λ r. ⌜ r ≡ cond (ok && isReg reg2) (Encoded.One (half reg2 opcode (imm % 32))) Encoded.Field ⌝ }
-{
-    if !ok {
-        return Encoded::Field;
-    }
-    if 32 <= reg2 {
-        return Encoded::Field;
-    }
-    Encoded::One(half(reg2, opcode, imm % 32))
-}
-
-// The same, with a field of seven bits that is kept in two places.
+// One halfword, with a field of up to seven bits that opcode and reg1 share; ok tells whether its operand is in range.
 fn short(opcode: u32, ok: bool, field: u32, reg2: u32) -> Encoded
     requires { ⌜ (opcode < 60) × (ok ≡ true → field < 128) ⌝ }
     ensures { λ r. ⌜ r ≡ cond (ok && isReg reg2) (short opcode field reg2) Encoded.Field ⌝ }
@@ -277,7 +293,7 @@ fn short(opcode: u32, ok: bool, field: u32, reg2: u32) -> Encoded
     Encoded::One(half(reg2, opcode + field / 32, field % 32))
 }
 
-// Two halfwords, with a second one that is in its range, or is not.
+// Two halfwords; ok tells whether the operand in the second one is in range.
 fn long(opcode: u32, ok: bool, w: u32, reg1: u32, reg2: u32) -> Encoded
     requires { ⌜ (opcode < 64) × (ok ≡ true → w < 65536) ⌝ }
     ensures { λ r. ⌜ r ≡ cond (ok && (isReg reg1 && isReg reg2)) (twoOf reg2 opcode reg1 w) Encoded.Field ⌝ }
@@ -294,7 +310,7 @@ fn long(opcode: u32, ok: bool, w: u32, reg1: u32, reg2: u32) -> Encoded
     two(reg2, opcode, reg1, w)
 }
 
-// Two halfwords.
+// Two halfwords, by their fields.
 fn two(reg2: u32, opcode: u32, reg1: u32, w: u32) -> Encoded
     requires { ⌜ (reg2 < 32) × (opcode < 64) × (reg1 < 32) × (w < 65536) ⌝ }
     ensures { λ r. ⌜ r ≡ twoOf reg2 opcode reg1 w ⌝ }
@@ -316,7 +332,7 @@ fn is_signed_even(half: u32, n: u32) -> bool
     is_signed(half, n) && n % 2 == 0
 }
 
-// A number of 8 bits that a unit divides.
+// A number of 8 bits, and a multiple.
 fn is_unsigned_multiple(unit: u32, n: u32) -> bool
     requires { ⌜ 0 < unit ⌝ }
     ensures { λ r. ⌜ r ≡ (isUnsigned 8 n && multiple unit n) ⌝ }

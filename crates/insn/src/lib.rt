@@ -70,22 +70,81 @@ pub enum Size {
 // An instruction and its operands. Immediates and displacements are the words that they stand for, a negative one in two's
 // complement: -2 is FFFFFFFEH.
 pub enum Insn {
-    Reg { op: RegOp, reg1: u32, reg2: u32 },
-    Jmp { reg1: u32 },
-    Imm5 { op: Imm5Op, imm: u32, reg2: u32 },
-    Sld { size: Size, disp: u32, reg2: u32 },
-    Sst { size: Size, disp: u32, reg2: u32 },
-    Bcond { cond: u32, disp: u32 },
-    Imm16 { op: Imm16Op, imm: u32, reg1: u32, reg2: u32 },
-    Ld { size: Size, disp: u32, reg1: u32, reg2: u32 },
-    St { size: Size, disp: u32, reg1: u32, reg2: u32 },
-    Jarl { disp: u32, reg2: u32 },
-    Bit { op: BitOp, bit: u32, disp: u32, reg1: u32 },
-    Setf { cond: u32, reg2: u32 },
-    Ldsr { reg2: u32, regid: u32 },
-    Stsr { regid: u32, reg2: u32 },
-    Shift { op: ShiftOp, reg1: u32, reg2: u32 },
-    Trap { vector: u32 },
+    Reg {
+        op: RegOp,
+        reg1: u32,
+        reg2: u32,
+    },
+    Jmp {
+        reg1: u32,
+    },
+    Imm5 {
+        op: Imm5Op,
+        imm: u32,
+        reg2: u32,
+    },
+    Sld {
+        size: Size,
+        disp: u32,
+        reg2: u32,
+    },
+    Sst {
+        size: Size,
+        disp: u32,
+        reg2: u32,
+    },
+    Bcond {
+        cond: u32,
+        disp: u32,
+    },
+    Imm16 {
+        op: Imm16Op,
+        imm: u32,
+        reg1: u32,
+        reg2: u32,
+    },
+    Ld {
+        size: Size,
+        disp: u32,
+        reg1: u32,
+        reg2: u32,
+    },
+    St {
+        size: Size,
+        disp: u32,
+        reg1: u32,
+        reg2: u32,
+    },
+    Jarl {
+        disp: u32,
+        reg2: u32,
+    },
+    Bit {
+        op: BitOp,
+        bit: u32,
+        disp: u32,
+        reg1: u32,
+    },
+    Setf {
+        cond: u32,
+        reg2: u32,
+    },
+    Ldsr {
+        reg2: u32,
+        regid: u32,
+    },
+    Stsr {
+        regid: u32,
+        reg2: u32,
+    },
+    Shift {
+        op: ShiftOp,
+        reg1: u32,
+        reg2: u32,
+    },
+    Trap {
+        vector: u32,
+    },
     Halt,
     Reti,
     Di,

@@ -1,15 +1,11 @@
+-- The code's two tests are the definition's.
 use borrow.Author.Tests.{lt-ltb, le-ltb}
-use Rattle.insn.specs.Coding.{decode}
 use Rattle.insn.proofs.decode.loads.Statement.{statement}
 use Rattle.insn.proofs.decode.loads.Tie as tie
-use Rattle.insn.proofs.decode.loads.Reads as reads
-use Rattle.insn.proofs.decode.loads.Lts as lts
 
--- src/decode.rt:259:1
 returns : tie.Need-returns
 returns c = simp (lt-ltb _ _ (c .if1 .taken))
 
--- src/decode.rt:259:1
 returns-2 : tie.Need-returns-2
 returns-2 c = simp (le-ltb _ _ (c .if1 .left))
 

@@ -1,48 +1,44 @@
+-- Each refusal is a part of the range that fails.
 use mathlib.Core.Path.{_∙_, sym}
 use borrow.Author.Tests.{lt-ltb, le-ltb, not-true, not-false}
 use Rattle.insn.specs.Coding.{inRange, halfwords, encode}
 use borrow.Author.Needs.{needs}
 use Rattle.insn.proofs.encode.bcond.Statement.{statement}
 use Rattle.insn.proofs.encode.bcond.Tie as tie
-use Rattle.insn.proofs.encode.bcond.Reads as reads
-use Rattle.insn.proofs.encode.bcond.Lts as lts
-use Rattle.insn.proofs.encode.half.Reads as half-reads
-use Rattle.insn.proofs.encode.is_signed_even.Reads as is-signed-even-reads
 
--- src/encode.rt:109:9
 returns : tie.Need-returns
 unfolding encode inRange
 returns c = rw (le-ltb _ _ (c .if1 .taken))
 
--- src/encode.rt:111:9
 is-signed-even-requires : tie.Need-is-signed-even-requires
 is-signed-even-requires c κs = search needs
 
--- src/encode.rt:112:9
 returns-2 : tie.Need-returns-2
 unfolding encode inRange
-returns-2 c = rw (lt-ltb _ _ (c .before .before .if1 .left), sym (c .before .is-signed-even .ensures) ∙ not-true _ (c .if2 .taken))
+returns-2 c =
+    rw (lt-ltb _ _ (c .before .before .if1 .left), sym (c .before .is-signed-even .ensures) ∙ not-true _ (c .if2 .taken))
 
--- src/encode.rt:115:34
 add-half : tie.Need-add-half
 add-half c = search needs
 
--- src/encode.rt:115:59
 mul-half : tie.Need-mul-half
 mul-half c = search needs
 
--- src/encode.rt:115:59
 add-half-2 : tie.Need-add-half-2
 add-half-2 c = search needs
 
--- src/encode.rt:115:18
 half-requires : tie.Need-half-requires
 half-requires c κs = search needs
 
--- src/encode.rt:105:1
 returns-3 : tie.Need-returns-3
 unfolding encode inRange halfwords
-returns-3 c = rw (lt-ltb _ _ (c .before .before .before .if1 .left), sym (c .before .before .is-signed-even .ensures) ∙ not-false _ (c .before .if2 .left), c .half .ensures)
+returns-3 c =
+    rw (
+      lt-ltb _ _ (c .before .before .before .if1 .left),
+      sym (c .before .before .is-signed-even .ensures) ∙
+          not-false _ (c .before .if2 .left),
+      c .half .ensures,
+    )
 
 pub bcond-spec : {M : Type 1} → statement M
 bcond-spec =

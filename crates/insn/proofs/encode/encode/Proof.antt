@@ -1,250 +1,177 @@
+-- Each arm's function promises the definition at its instruction.
 use Rattle.insn.specs.Coding.{inRange, halfwords, encode}
 use borrow.Author.Needs.{needs}
 use Rattle.insn.proofs.encode.encode.Statement.{statement}
 use Rattle.insn.proofs.encode.encode.Tie as tie
-use Rattle.insn.proofs.encode.encode.Reads as reads
-use Rattle.insn.proofs.encode.encode.Lts as lts
-use Rattle.insn.proofs.encode.bcond.Reads as bcond-reads
-use Rattle.insn.proofs.encode.bit_insn.Reads as bit-insn-reads
-use Rattle.insn.proofs.encode.imm16.Reads as imm16-reads
-use Rattle.insn.proofs.encode.imm5.Reads as imm5-reads
-use Rattle.insn.proofs.encode.jarl.Reads as jarl-reads
-use Rattle.insn.proofs.encode.jmp.Reads as jmp-reads
-use Rattle.insn.proofs.encode.ld.Reads as ld-reads
-use Rattle.insn.proofs.encode.ldsr.Reads as ldsr-reads
-use Rattle.insn.proofs.encode.reg.Reads as reg-reads
-use Rattle.insn.proofs.encode.setf.Reads as setf-reads
-use Rattle.insn.proofs.encode.shift.Reads as shift-reads
-use Rattle.insn.proofs.encode.sld.Reads as sld-reads
-use Rattle.insn.proofs.encode.sst.Reads as sst-reads
-use Rattle.insn.proofs.encode.st.Reads as st-reads
-use Rattle.insn.proofs.encode.stsr.Reads as stsr-reads
-use Rattle.insn.proofs.encode.trap.Reads as trap-reads
 
--- src/encode.rt:24:21
 enum-known-i : tie.Need-enum-known-i
 enum-known-i c = search needs
 
--- src/encode.rt:24:41
 reg-requires : tie.Need-reg-requires
 reg-requires c κs = search needs
 
--- src/encode.rt:25:21
 enum-known-i-2 : tie.Need-enum-known-i-2
 enum-known-i-2 c = search needs
 
--- src/encode.rt:25:31
 jmp-requires : tie.Need-jmp-requires
 jmp-requires c κs = search needs
 
--- src/encode.rt:26:22
 enum-known-i-3 : tie.Need-enum-known-i-3
 enum-known-i-3 c = search needs
 
--- src/encode.rt:26:41
 imm5-requires : tie.Need-imm5-requires
 imm5-requires c κs = search needs
 
--- src/encode.rt:27:21
 enum-known-i-4 : tie.Need-enum-known-i-4
 enum-known-i-4 c = search needs
 
--- src/encode.rt:27:43
 sld-requires : tie.Need-sld-requires
 sld-requires c κs = search needs
 
--- src/encode.rt:28:21
 enum-known-i-5 : tie.Need-enum-known-i-5
 enum-known-i-5 c = search needs
 
--- src/encode.rt:28:43
 sst-requires : tie.Need-sst-requires
 sst-requires c κs = search needs
 
--- src/encode.rt:29:23
 enum-known-i-6 : tie.Need-enum-known-i-6
 enum-known-i-6 c = search needs
 
--- src/encode.rt:29:39
 bcond-requires : tie.Need-bcond-requires
 bcond-requires c κs = search needs
 
--- src/encode.rt:30:23
 enum-known-i-7 : tie.Need-enum-known-i-7
 enum-known-i-7 c = search needs
 
--- src/encode.rt:30:48
 imm16-requires : tie.Need-imm16-requires
 imm16-requires c κs = search needs
 
--- src/encode.rt:31:20
 enum-known-i-8 : tie.Need-enum-known-i-8
 enum-known-i-8 c = search needs
 
--- src/encode.rt:31:48
 ld-requires : tie.Need-ld-requires
 ld-requires c κs = search needs
 
--- src/encode.rt:32:20
 enum-known-i-9 : tie.Need-enum-known-i-9
 enum-known-i-9 c = search needs
 
--- src/encode.rt:32:48
 st-requires : tie.Need-st-requires
 st-requires c κs = search needs
 
--- src/encode.rt:33:22
 enum-known-i-10 : tie.Need-enum-known-i-10
 enum-known-i-10 c = search needs
 
--- src/encode.rt:33:38
 jarl-requires : tie.Need-jarl-requires
 jarl-requires c κs = search needs
 
--- src/encode.rt:34:21
 enum-known-i-11 : tie.Need-enum-known-i-11
 enum-known-i-11 c = search needs
 
--- src/encode.rt:34:46
 bit-insn-requires : tie.Need-bit-insn-requires
 bit-insn-requires c κs = search needs
 
--- src/encode.rt:35:22
 enum-known-i-12 : tie.Need-enum-known-i-12
 enum-known-i-12 c = search needs
 
--- src/encode.rt:35:38
 setf-requires : tie.Need-setf-requires
 setf-requires c κs = search needs
 
--- src/encode.rt:36:22
 enum-known-i-13 : tie.Need-enum-known-i-13
 enum-known-i-13 c = search needs
 
--- src/encode.rt:36:39
 ldsr-requires : tie.Need-ldsr-requires
 ldsr-requires c κs = search needs
 
--- src/encode.rt:37:22
 enum-known-i-14 : tie.Need-enum-known-i-14
 enum-known-i-14 c = search needs
 
--- src/encode.rt:37:39
 stsr-requires : tie.Need-stsr-requires
 stsr-requires c κs = search needs
 
--- src/encode.rt:38:23
 enum-known-i-15 : tie.Need-enum-known-i-15
 enum-known-i-15 c = search needs
 
--- src/encode.rt:38:43
 shift-requires : tie.Need-shift-requires
 shift-requires c κs = search needs
 
--- src/encode.rt:39:22
 enum-known-i-16 : tie.Need-enum-known-i-16
 enum-known-i-16 c = search needs
 
--- src/encode.rt:39:34
 trap-requires : tie.Need-trap-requires
 trap-requires c κs = search needs
 
--- src/encode.rt:40:23
 enum-told : tie.Need-enum-told
 enum-told c = search needs
 
--- src/encode.rt:41:23
 enum-told-2 : tie.Need-enum-told-2
 enum-told-2 c = search needs
 
--- src/encode.rt:42:21
 enum-told-3 : tie.Need-enum-told-3
 enum-told-3 c = search needs
 
--- src/encode.rt:43:21
 enum-told-4 : tie.Need-enum-told-4
 enum-told-4 c = search needs
 
--- src/encode.rt:20:1
 returns : tie.Need-returns
 returns c = rw (c .before .before .i .given .1) (c .reg .ensures)
 
--- src/encode.rt:20:1
 returns-2 : tie.Need-returns-2
 returns-2 c = rw (c .before .before .i2 .given .1) (c .jmp .ensures)
 
--- src/encode.rt:20:1
 returns-3 : tie.Need-returns-3
 returns-3 c = rw (c .before .before .i3 .given .1) (c .imm5 .ensures)
 
--- src/encode.rt:20:1
 returns-4 : tie.Need-returns-4
 returns-4 c = rw (c .before .before .i4 .given .1) (c .sld .ensures)
 
--- src/encode.rt:20:1
 returns-5 : tie.Need-returns-5
 returns-5 c = rw (c .before .before .i5 .given .1) (c .sst .ensures)
 
--- src/encode.rt:20:1
 returns-6 : tie.Need-returns-6
 returns-6 c = rw (c .before .before .i6 .given .1) (c .bcond .ensures)
 
--- src/encode.rt:20:1
 returns-7 : tie.Need-returns-7
 returns-7 c = rw (c .before .before .i7 .given .1) (c .imm16 .ensures)
 
--- src/encode.rt:20:1
 returns-8 : tie.Need-returns-8
 returns-8 c = rw (c .before .before .i8 .given .1) (c .ld .ensures)
 
--- src/encode.rt:20:1
 returns-9 : tie.Need-returns-9
 returns-9 c = rw (c .before .before .i9 .given .1) (c .st .ensures)
 
--- src/encode.rt:20:1
 returns-10 : tie.Need-returns-10
 returns-10 c = rw (c .before .before .i10 .given .1) (c .jarl .ensures)
 
--- src/encode.rt:20:1
 returns-11 : tie.Need-returns-11
 returns-11 c = rw (c .before .before .i11 .given .1) (c .bit-insn .ensures)
 
--- src/encode.rt:20:1
 returns-12 : tie.Need-returns-12
 returns-12 c = rw (c .before .before .i12 .given .1) (c .setf .ensures)
 
--- src/encode.rt:20:1
 returns-13 : tie.Need-returns-13
 returns-13 c = rw (c .before .before .i13 .given .1) (c .ldsr .ensures)
 
--- src/encode.rt:20:1
 returns-14 : tie.Need-returns-14
 returns-14 c = rw (c .before .before .i14 .given .1) (c .stsr .ensures)
 
--- src/encode.rt:20:1
 returns-15 : tie.Need-returns-15
 returns-15 c = rw (c .before .before .i15 .given .1) (c .shift .ensures)
 
--- src/encode.rt:20:1
 returns-16 : tie.Need-returns-16
 returns-16 c = rw (c .before .before .i16 .given .1) (c .trap .ensures)
 
--- src/encode.rt:20:1
 returns-17 : tie.Need-returns-17
 unfolding encode inRange halfwords
 returns-17 c = rw (c .enum-told .given .1)
 
--- src/encode.rt:20:1
 returns-18 : tie.Need-returns-18
 unfolding encode inRange halfwords
 returns-18 c = rw (c .enum-told2 .given .1)
 
--- src/encode.rt:20:1
 returns-19 : tie.Need-returns-19
 unfolding encode inRange halfwords
 returns-19 c = rw (c .enum-told3 .given .1)
 
--- src/encode.rt:20:1
 returns-20 : tie.Need-returns-20
 unfolding encode inRange halfwords
 returns-20 c = rw (c .enum-told4 .given .1)

@@ -1,21 +1,15 @@
+-- The code's two tests are the definition's.
 use mathlib.Core.Path.{_∙_, sym}
-use Rattle.insn.specs.Coding.{encode}
 use borrow.Author.Needs.{needs}
 use Rattle.insn.proofs.encode.is_signed_even.Statement.{statement}
 use Rattle.insn.proofs.encode.is_signed_even.Tie as tie
-use Rattle.insn.proofs.encode.is_signed_even.Reads as reads
-use Rattle.insn.proofs.encode.is_signed_even.Lts as lts
-use Rattle.insn.proofs.encode.is_signed.Reads as is-signed-reads
 
--- src/encode.rt:322:5
 is-signed-requires : tie.Need-is-signed-requires
 is-signed-requires c κs = search needs
 
--- src/encode.rt:319:1
 returns : tie.Need-returns
 returns c = rw (sym (c .before .is-signed .ensures) ∙ c .if1 .taken)
 
--- src/encode.rt:319:1
 returns-2 : tie.Need-returns-2
 returns-2 c = rw (sym (c .before .is-signed .ensures) ∙ c .if1 .left, c .if1 .left)
 

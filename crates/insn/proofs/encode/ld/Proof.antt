@@ -1,3 +1,4 @@
+-- At each size the definition computes to what the arm asks for; an even displacement leaves room for the bit that says word.
 use mathlib.Core.Path.{_∙_}
 use native.Mathlib.Omega.{arith}
 use lib.Dec.{lit<}
@@ -6,63 +7,46 @@ use Rattle.insn.proofs.Ranges.{even}
 use borrow.Author.Needs.{needs}
 use Rattle.insn.proofs.encode.ld.Statement.{statement}
 use Rattle.insn.proofs.encode.ld.Tie as tie
-use Rattle.insn.proofs.encode.ld.Reads as reads
-use Rattle.insn.proofs.encode.ld.Lts as lts
-use Rattle.insn.proofs.encode.is_signed.Reads as is-signed-reads
-use Rattle.insn.proofs.encode.is_signed_even.Reads as is-signed-even-reads
-use Rattle.insn.proofs.encode.long.Reads as long-reads
 
--- src/encode.rt:141:38
 enum-told : tie.Need-enum-told
 enum-told c = search needs
 
--- src/encode.rt:141:38
 is-signed-requires : tie.Need-is-signed-requires
 is-signed-requires c κs = search needs
 
--- src/encode.rt:141:23
 long-requires : tie.Need-long-requires
 long-requires c κs = search needs
 
--- src/encode.rt:142:38
 enum-told-2 : tie.Need-enum-told-2
 enum-told-2 c = search needs
 
--- src/encode.rt:142:38
 is-signed-even-requires : tie.Need-is-signed-even-requires
 is-signed-even-requires c κs = search needs
 
--- src/encode.rt:142:23
 long-requires-2 : tie.Need-long-requires-2
 long-requires-2 c κs = search needs
 
--- src/encode.rt:143:38
 enum-told-3 : tie.Need-enum-told-3
 enum-told-3 c = search needs
 
--- src/encode.rt:143:38
 is-signed-even-requires-2 : tie.Need-is-signed-even-requires-2
 is-signed-even-requires-2 c κs = search needs
 
--- src/encode.rt:143:67
 add-long : tie.Need-add-long
 add-long c = search needs
 
--- src/encode.rt:143:23
 long-requires-3 : tie.Need-long-requires-3
-long-requires-3 c κs = (lit< tt, λ h. omega (arith, even 32768 (c .before .before .before .args .disp) (c .is-signed-even2 .ensures) h))
+long-requires-3 c κs =
+    (lit< tt, λ h. omega (arith, even 32768 (c .before .before .before .args .disp) (c .is-signed-even2 .ensures) h))
 
--- src/encode.rt:136:1
 returns : tie.Need-returns
 unfolding encode inRange halfwords
 returns c = rw (c .before .before .enum-told .given .1) (c .long .ensures ∙ rw (c .before .is-signed .ensures))
 
--- src/encode.rt:136:1
 returns-2 : tie.Need-returns-2
 unfolding encode inRange halfwords
 returns-2 c = rw (c .before .before .enum-told2 .given .1) (c .long2 .ensures ∙ rw (c .before .is-signed-even .ensures))
 
--- src/encode.rt:136:1
 returns-3 : tie.Need-returns-3
 unfolding encode inRange halfwords
 returns-3 c = rw (c .before .before .enum-told3 .given .1) (c .long3 .ensures ∙ rw (c .before .is-signed-even2 .ensures))

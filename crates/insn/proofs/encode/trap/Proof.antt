@@ -1,22 +1,17 @@
+-- The refusal is the range that fails.
 use borrow.Author.Tests.{lt-ltb, le-ltb}
 use Rattle.insn.specs.Coding.{inRange, halfwords, encode}
 use borrow.Author.Needs.{needs}
 use Rattle.insn.proofs.encode.trap.Statement.{statement}
 use Rattle.insn.proofs.encode.trap.Tie as tie
-use Rattle.insn.proofs.encode.trap.Reads as reads
-use Rattle.insn.proofs.encode.trap.Lts as lts
-use Rattle.insn.proofs.encode.two.Reads as two-reads
 
--- src/encode.rt:268:9
 returns : tie.Need-returns
 unfolding encode inRange
 returns c = rw (le-ltb _ _ (c .if1 .taken))
 
--- src/encode.rt:270:5
 two-requires : tie.Need-two-requires
 two-requires c κs = search needs
 
--- src/encode.rt:264:1
 returns-2 : tie.Need-returns-2
 unfolding encode inRange halfwords
 returns-2 c = rw (lt-ltb _ _ (c .before .if1 .left)) (c .two .ensures)
