@@ -2,3 +2,5 @@ pub mod Block
 pub mod PackLaws
 pub mod BlockLaws
 pub mod Entry
+pub mod Handed
+pub mod EntryLaws

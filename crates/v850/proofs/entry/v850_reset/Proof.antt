@@ -1,4 +1,6 @@
 use mathlib.Core.Path.{refl, ap, _∙_}
+use mathlib.Core.List.{List}
+use Prim.Native.Nat.{ℕ}
 use borrow.Author.Needs.{needs}
 use borrow.Author.Tests.{eq-eqb, ne-eqb}
 use lib.ListN.{length}
@@ -18,7 +20,7 @@ use Rattle.v850.proofs.block.words_of.Reads as words-of-reads
 -- src/entry.rt:18:9
 returns : tie.Need-returns
 unfolding reset
-returns c = rw (ne-eqb (length (c .before .before .args .block .now)) 236 (c .if1 .taken)) (refl, refl)
+returns c = rw (ne-eqb (length (c .before .before .args .block .now)) 236 (c .if1 .taken))
 
 -- src/entry.rt:20:15
 words-requires : tie.Need-words-requires
@@ -43,7 +45,7 @@ same-length c = search needs
 -- src/entry.rt:13:1
 returns-2 : tie.Need-returns-2
 unfolding reset
-returns-2 c = rw (eq-eqb (length (c .before .before .before .before .before .before .before .before .before .before .before .before .before .before .before .args .block .now)) 236 (c .before .before .before .before .before .before .before .before .before .before .before .before .before .if1 .left)) (refl, c .before .before .put-words .ensures ∙ ap bytesOf (c .before .before .before .before .before .words-of .ensures ∙ ap (wordsOf resetOpen resetCells) (c .before .before .before .before .before .before .before .before .before .map-in .ensures ∙ ap mapIn (c .before .before .before .before .before .before .before .before .before .before .before .words .ensures))))
+returns-2 c = rw (eq-eqb (length (c .before .before .before .before .before .before .before .before .before .before .before .before .before .before .before .args .block .now)) 236 (c .before .before .before .before .before .before .before .before .before .before .before .before .before .if1 .left)) (ap (λ (b : List ℕ). record { answer = 0; block = b }) (c .before .before .put-words .ensures ∙ ap bytesOf (c .before .before .before .before .before .words-of .ensures ∙ ap (wordsOf resetOpen resetCells) (c .before .before .before .before .before .before .before .before .before .map-in .ensures ∙ ap mapIn (c .before .before .before .before .before .before .before .before .before .before .before .words .ensures)))))
 
 pub v850-reset-spec : {M : Type 1} → statement M
 v850-reset-spec =
