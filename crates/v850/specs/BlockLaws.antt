@@ -1,0 +1,423 @@
+-- The block taken apart and put together: each undoes the other, for blocks that pass the tests of STATE.
+use mathlib.Core.Path.{_≡_, refl, sym, ap, ap₂, _∙_, subst}
+use mathlib.Core.Bool.{Bool, true, false, cond, _&&_}
+use mathlib.Core.List.{List, [], _∷_, _++_}
+use Prim.Native.Nat.{ℕ, zero, suc, _+_, _-_, _*_, _/_, _%_, _^_, _≤_, _<_}
+use native.Mathlib.Omega.{arith}
+use native.Mathlib.Nat.{lt-of-lt-of-le}
+use lib.Dec.{eqb, ltb, leb}
+use lib.Pow.{pow-mono, shr-shr}
+use lib.ListN.{length, getD, take, drop, length-take, length-append, take-append-drop, drop-of-length-le, List·getD-eq-default, List·getD-append}
+use lib.Seq.{length-take-le, take-at, getD-take, getD-drop, getD-append-add, drop-append-add, drop-cons, slice-cons, length-slice}
+use borrow.Author.Tests.{ltb-true, ltb-false, lt-ltb, leb-true, le-leb, eqb-true, eq-eqb}
+use Rattle.machine.specs.declared.Open.{Open}
+use Rattle.machine.specs.Marked.{Cells, both}
+use Rattle.machine.specs.Psw.{sys, EIPC, EIPSW, FEPC, FEPSW, PSW, psw}
+use Rattle.machine.specs.WellFormed.{WellFormed, limit, markLimit, goodCode}
+use Rattle.machine.specs.InvariantLaws.{code-target}
+use Rattle.machine.specs.Invariants.{reset-well-formed}
+use Rattle.v850.specs.Block.{bytesOfWord, bitsFrom, packBits, byte, atPC, atPSW, atEIPC, atEIPSW, atFEPC, atFEPSW, atECR, atCode, atWaits, atRegMarks, atSysMarks, atMap, WORDS, mapIn, coreIn, numsIn, marksIn, cellsIn, wordsOf, goodState}
+use Rattle.v850.specs.PackLaws.{Below, below-append, below-cons, below-take, whole, parts, pack-lt, bits-length, bits-below, bits-pack, pack-bits}
+
+-- marks of registers and of saved PCs are 0 or 1
+pub record Marks (m : List ℕ) : Type 0 where
+  pub long : length m ≡ 38
+  pub regs : (i : ℕ) → i < 32 → getD m i 0 < 2
+  pub eipc : getD m (sys EIPC) 0 < 2
+  pub fepc : getD m (sys FEPC) 0 < 2
+
+pub formed-marks : {o : Open} {c : Cells} → WellFormed o c → Marks (c .marks)
+formed-marks {o} {c} w =
+    record { long = w .marks; regs = λ i h. reg-mark i h (w .small-marks i); eipc = w .small-marks 32; fepc = w .small-marks 34 }
+  where
+    reg-mark : (i : ℕ) → i < 32 → getD (c .marks) i 0 < markLimit i → getD (c .marks) i 0 < 2
+    reg-mark i h l = simp (lt-ltb i 32 h) at l
+
+-- the word of the system registers' marks
+abbrev pub sysMarks : List ℕ → ℕ
+sysMarks m =
+    getD m (sys PSW) 0 % 2 ^ 5 + 2 ^ 8 * getD m (sys EIPSW) 0 + 2 ^ 16 * getD m (sys FEPSW) 0
+      + 2 ^ 24 * (getD m (sys EIPC) 0 + 2 * getD m (sys FEPC) 0)
+
+-- the registers' marks
+regs-bits : (m : List ℕ) → Marks m → Below 2 (take 32 m)
+regs-bits m h = below-take 2 m 32 (omega arith) (h .regs)
+
+-- one more of them at the low end
+pub pack-more : (m : List ℕ) (i : ℕ) → Marks m → i < 32 → getD m i 0 + 2 * packBits (drop (suc i) (take 32 m)) ≡ packBits (drop i (take 32 m))
+unfolding packBits
+pack-more m i h l = sym (ap packBits (slice-cons i 32 m 0 l (omega (arith, h .long))))
+
+pub pack-word : (m : List ℕ) (i : ℕ) → Marks m → packBits (drop i (take 32 m)) < 2 ^ 32
+pack-word m i h =
+    lt-of-lt-of-le
+    (pack-lt (drop i (take 32 m)) (record { at = λ k. subst (λ (x : ℕ). x < 2) (sym (getD-drop i (take 32 m) k 0)) (regs-bits m h .at (i + k)) }))
+    (pow-mono {i = length (drop i (take 32 m))} {j = 32} (omega (arith, length-slice i 32 m (omega (arith, h .long)))))
+
+-- PSW, the word of waits and the word of marks, apart and together
+psw-parts : (f np ep id : ℕ) → np < 2 → ep < 2 → id < 2
+    → ((f % 2 ^ 5 + 2 ^ 5 * (id % 2) + 2 ^ 6 * (ep % 2) + 2 ^ 7 * (np % 2)) / 2 ^ 7 % 2 ≡ np)
+    × ((f % 2 ^ 5 + 2 ^ 5 * (id % 2) + 2 ^ 6 * (ep % 2) + 2 ^ 7 * (np % 2)) / 2 ^ 6 % 2 ≡ ep)
+    × ((f % 2 ^ 5 + 2 ^ 5 * (id % 2) + 2 ^ 6 * (ep % 2) + 2 ^ 7 * (np % 2)) / 2 ^ 5 % 2 ≡ id)
+    × ((f % 2 ^ 5 + 2 ^ 5 * (id % 2) + 2 ^ 6 * (ep % 2) + 2 ^ 7 * (np % 2)) % 2 ^ 5 ≡ f % 2 ^ 5)
+    × (f % 2 ^ 5 + 2 ^ 5 * (id % 2) + 2 ^ 6 * (ep % 2) + 2 ^ 7 * (np % 2) ≤ 0xFF)
+psw-parts f np ep id h k l = (omega arith, omega arith, omega arith, omega arith, omega arith)
+
+psw-whole : (x : ℕ) → x ≤ 0xFF → x % 2 ^ 5 % 2 ^ 5 + 2 ^ 5 * (x / 2 ^ 5 % 2 % 2) + 2 ^ 6 * (x / 2 ^ 6 % 2 % 2) + 2 ^ 7 * (x / 2 ^ 7 % 2 % 2) ≡ x
+psw-whole x h =
+    add x (x % 2 ^ 5 % 2 ^ 5) (x / 2 ^ 5) (x / 2 ^ 5 % 2 % 2) (x / 2 ^ 6) (x / 2 ^ 6 % 2 % 2) (x / 2 ^ 7) (x / 2 ^ 7 % 2 % 2)
+    (omega arith) (omega (arith, shr-shr x 5 1)) (omega (arith, shr-shr x 6 1)) (omega arith)
+  where
+    add : (x r q b q′ b′ q″ b″ : ℕ) → x ≡ r + 2 ^ 5 * q → q ≡ b + 2 * q′ → q′ ≡ b′ + 2 * q″ → q″ ≡ b″ → r + 2 ^ 5 * b + 2 ^ 6 * b′ + 2 ^ 7 * b″ ≡ x
+    add x r q b q′ b′ q″ b″ h k l m = omega arith
+
+byte-0 : (x : ℕ) → byte 0 x ≡ x % 2 ^ 8
+byte-0 x = omega arith
+
+waits-parts : (h n : ℕ) → h < 2 → n < 2
+    → (byte 0 (h + 2 ^ 8 * n) ≡ h) × (byte 1 (h + 2 ^ 8 * n) ≡ n) × (byte 2 (h + 2 ^ 8 * n) ≡ 0) × (byte 3 (h + 2 ^ 8 * n) ≡ 0)
+waits-parts h n p q = (omega arith, omega arith, omega arith, omega arith)
+
+waits-whole : (x : ℕ) → x < 2 ^ 32 → byte 2 x ≡ 0 → byte 3 x ≡ 0 → byte 0 x + 2 ^ 8 * byte 1 x ≡ x
+waits-whole x h p q = omega (arith, whole x h)
+
+marks-parts : (p e f a b : ℕ) → e < 2 ^ 8 → f < 2 ^ 8 → a < 2 → b < 2
+    → (byte 0 (p % 2 ^ 5 + 2 ^ 8 * e + 2 ^ 16 * f + 2 ^ 24 * (a + 2 * b)) ≡ p % 2 ^ 5)
+    × (byte 1 (p % 2 ^ 5 + 2 ^ 8 * e + 2 ^ 16 * f + 2 ^ 24 * (a + 2 * b)) ≡ e)
+    × (byte 2 (p % 2 ^ 5 + 2 ^ 8 * e + 2 ^ 16 * f + 2 ^ 24 * (a + 2 * b)) ≡ f)
+    × (byte 3 (p % 2 ^ 5 + 2 ^ 8 * e + 2 ^ 16 * f + 2 ^ 24 * (a + 2 * b)) ≡ a + 2 * b)
+marks-parts p e f a b he hf ha hb =
+    let x : p % 2 ^ 5 + 2 ^ 8 * e + 2 ^ 16 * f + 2 ^ 24 * (a + 2 * b) ≡ p % 2 ^ 5 + 2 ^ 8 * (e + 2 ^ 8 * (f + 2 ^ 8 * (a + 2 * b))) = omega arith in
+    let l = parts (p % 2 ^ 5) e f (a + 2 * b) (omega arith) he hf (omega arith) in
+    rw x (byte-0 _ ∙ ap (λ (s : List ℕ). getD s 0 0) l, ap (λ (s : List ℕ). getD s 1 0) l, ap (λ (s : List ℕ). getD s 2 0) l, ap (λ (s : List ℕ). getD s 3 0) l)
+
+marks-whole : (x : ℕ) → x < 2 ^ 32 → byte 0 x < 2 ^ 5 → byte 3 x ≤ 3
+    → byte 0 x % 2 ^ 5 % 2 ^ 5 + 2 ^ 8 * byte 1 x + 2 ^ 16 * byte 2 x + 2 ^ 24 * (byte 3 x % 2 + 2 * (byte 3 x / 2 % 2)) ≡ x
+marks-whole x h p q =
+    add x (byte 0 x) (byte 1 x) (byte 2 x) (byte 3 x) (byte 0 x % 2 ^ 5 % 2 ^ 5) (byte 3 x % 2) (byte 3 x / 2 % 2)
+    (sym (whole x h) ∙ ap (λ (y : ℕ). y + 2 ^ 8 * (byte 1 x + 2 ^ 8 * (byte 2 x + 2 ^ 8 * byte 3 x))) (sym (byte-0 x)))
+    (omega arith) (omega arith)
+  where
+    add : (x b0 b1 b2 b3 r s t : ℕ) → x ≡ b0 + 2 ^ 8 * (b1 + 2 ^ 8 * (b2 + 2 ^ 8 * b3)) → r ≡ b0 → b3 ≡ s + 2 * t
+        → r + 2 ^ 8 * b1 + 2 ^ 16 * b2 + 2 ^ 24 * (s + 2 * t) ≡ x
+    add x b0 b1 b2 b3 r s t h k l = omega arith
+
+-- Lists of cells and of words, by places
+after : (s t : List ℕ) (j : ℕ) → length s ≡ 32 → getD (s ++ t) (32 + j) 0 ≡ getD t j 0
+after s t j h = ap (λ (k : ℕ). getD (s ++ t) (k + j) 0) (sym h) ∙ getD-append-add s t j 0
+
+drop-after : (s t : List ℕ) (j : ℕ) → length s ≡ 32 → drop (32 + j) (s ++ t) ≡ drop j t
+drop-after s t j h = ap (λ (k : ℕ). drop (k + j) (s ++ t)) (sym h) ∙ drop-append-add s t j
+
+-- what holds of the first 32, of the six after them and of zeros past the end holds everywhere
+each : (P : ℕ → ℕ → Type 0) (s : List ℕ) (a b d e f g : ℕ) → length s ≡ 32 → ((i : ℕ) → i < 32 → P i (getD s i 0))
+    → P 32 a → P 33 b → P 34 d → P 35 e → P 36 f → P 37 g → ((i : ℕ) → 38 ≤ i → P i 0)
+    → (i : ℕ) → P i (getD (s ++ (a ∷ b ∷ d ∷ e ∷ f ∷ g ∷ [])) i 0)
+each P s a b d e f g h hs ha hb hd he hf hg hz i = cases (ltb i 32) refl
+  where
+    tail : (j : ℕ) → P (32 + j) (getD (a ∷ b ∷ d ∷ e ∷ f ∷ g ∷ []) j 0)
+    tail zero = ha
+    tail (suc zero) = hb
+    tail (suc (suc zero)) = hd
+    tail (suc (suc (suc zero))) = he
+    tail (suc (suc (suc (suc zero)))) = hf
+    tail (suc (suc (suc (suc (suc zero))))) = hg
+    tail (suc (suc (suc (suc (suc (suc j)))))) = hz _ (omega arith)
+    cases : (t : Bool) → ltb i 32 ≡ t → P i (getD (s ++ (a ∷ b ∷ d ∷ e ∷ f ∷ g ∷ [])) i 0)
+    cases true q =
+        let l : i < length s = omega (arith, ltb-true i 32 q) in
+        subst (P i) (sym (List·getD-append s (a ∷ b ∷ d ∷ e ∷ f ∷ g ∷ []) 0 i l)) (hs i (ltb-true i 32 q))
+    cases false q =
+        subst (λ (k : ℕ). P k (getD (s ++ (a ∷ b ∷ d ∷ e ∷ f ∷ g ∷ [])) k 0)) {x = 32 + (i - 32)} {y = i} (omega (arith, ltb-false i 32 q))
+        (subst (P (32 + (i - 32))) (sym (after s (a ∷ b ∷ d ∷ e ∷ f ∷ g ∷ []) (i - 32) h)) (tail (i - 32)))
+
+-- n numbers of a list from number k on
+abbrev reads : List ℕ → ℕ → ℕ → List ℕ
+reads l k zero = []
+reads l k (suc n) = getD l k 0 ∷ reads l (suc k) n
+
+drop-reads : (l : List ℕ) (k n : ℕ) → k + n ≤ length l → drop k l ≡ reads l k n ++ drop (k + n) l
+drop-reads l k zero h = ap (λ (j : ℕ). drop j l) {x = k} {y = k + 0} (omega arith)
+drop-reads l k (suc n) h =
+    drop-cons l k 0 (omega arith)
+    ∙ ap (λ (s : List ℕ). getD l k 0 ∷ s) (drop-reads l (suc k) n (omega arith) ∙ ap (λ (j : ℕ). reads l (suc k) n ++ drop j l) {x = suc k + n} {y = k + suc n} (omega arith))
+
+-- a list of cells is its first 32 numbers and the six after them; a list of words has eleven between the registers and the map
+six-there : (l : List ℕ) → length l ≡ 38 → take 32 l ++ reads l 32 6 ≡ l
+six-there l h =
+    ap (λ (s : List ℕ). take 32 l ++ s)
+    (sym (drop-reads l 32 6 (omega arith) ∙ ap (λ (s : List ℕ). reads l 32 6 ++ s) (drop-of-length-le l {i = 38} (omega arith))))
+    ∙ take-append-drop 32 l
+
+eleven-there : (l : List ℕ) → length l ≡ 59 → take 32 l ++ (reads l 32 11 ++ drop 43 l) ≡ l
+eleven-there l h = ap (λ (s : List ℕ). take 32 l ++ s) (sym (drop-reads l 32 11 (omega arith))) ∙ take-append-drop 32 l
+
+-- THE THEOREMS
+
+-- What a well-formed state puts together is taken apart as that state.
+module _ (o : Open) (c : Cells) (map : List ℕ) (w : WellFormed o c) where
+  regs-long : length (take 32 (c .nums)) ≡ 32
+  regs-long = length-take-le 32 (c .nums) (omega (arith, w .nums))
+
+  the-pc : getD (wordsOf o c map) atPC 0 ≡ o .pc
+  the-pc = after (take 32 (c .nums)) _ 0 regs-long
+
+  the-psw : getD (wordsOf o c map) atPSW 0 ≡ psw o c .on
+  the-psw = after (take 32 (c .nums)) _ 1 regs-long
+
+  the-eipc : getD (wordsOf o c map) atEIPC 0 ≡ getD (c .nums) (sys EIPC) 0
+  the-eipc = after (take 32 (c .nums)) _ 2 regs-long
+
+  the-eipsw : getD (wordsOf o c map) atEIPSW 0 ≡ getD (c .nums) (sys EIPSW) 0
+  the-eipsw = after (take 32 (c .nums)) _ 3 regs-long
+
+  the-fepc : getD (wordsOf o c map) atFEPC 0 ≡ getD (c .nums) (sys FEPC) 0
+  the-fepc = after (take 32 (c .nums)) _ 4 regs-long
+
+  the-fepsw : getD (wordsOf o c map) atFEPSW 0 ≡ getD (c .nums) (sys FEPSW) 0
+  the-fepsw = after (take 32 (c .nums)) _ 5 regs-long
+
+  the-ecr : getD (wordsOf o c map) atECR 0 ≡ o .ecr
+  the-ecr = after (take 32 (c .nums)) _ 6 regs-long
+
+  the-code : getD (wordsOf o c map) atCode 0 ≡ o .code
+  the-code = after (take 32 (c .nums)) _ 7 regs-long
+
+  the-waits : getD (wordsOf o c map) atWaits 0 ≡ o .halted + 2 ^ 8 * o .nmi
+  the-waits = after (take 32 (c .nums)) _ 8 regs-long
+
+  the-reg-marks : getD (wordsOf o c map) atRegMarks 0 ≡ packBits (take 32 (c .marks))
+  the-reg-marks = after (take 32 (c .nums)) _ 9 regs-long
+
+  the-sys-marks : getD (wordsOf o c map) atSysMarks 0 ≡ sysMarks (c .marks)
+  the-sys-marks = after (take 32 (c .nums)) _ 10 regs-long
+
+  in-psw :
+      (getD (wordsOf o c map) atPSW 0 / 2 ^ 7 % 2 ≡ o .np) × (getD (wordsOf o c map) atPSW 0 / 2 ^ 6 % 2 ≡ o .ep)
+      × (getD (wordsOf o c map) atPSW 0 / 2 ^ 5 % 2 ≡ o .id) × (getD (wordsOf o c map) atPSW 0 % 2 ^ 5 ≡ getD (c .nums) (sys PSW) 0)
+      × (getD (wordsOf o c map) atPSW 0 ≤ 0xFF)
+  in-psw =
+      let p = psw-parts (getD (c .nums) (sys PSW) 0) (o .np) (o .ep) (o .id) (w .np) (w .ep) (w .id) in
+      rw the-psw (p .0, p .1, p .2, p .3 ∙ omega (arith, w .small 37), p .4)
+
+  in-waits :
+      (byte 0 (getD (wordsOf o c map) atWaits 0) ≡ o .halted) × (byte 1 (getD (wordsOf o c map) atWaits 0) ≡ o .nmi)
+      × (byte 2 (getD (wordsOf o c map) atWaits 0) ≡ 0) × (byte 3 (getD (wordsOf o c map) atWaits 0) ≡ 0)
+  in-waits = rw the-waits (waits-parts (o .halted) (o .nmi) (w .halted) (w .nmi))
+
+  in-marks :
+      (byte 0 (getD (wordsOf o c map) atSysMarks 0) ≡ getD (c .marks) (sys PSW) 0 % 2 ^ 5)
+      × (byte 1 (getD (wordsOf o c map) atSysMarks 0) ≡ getD (c .marks) (sys EIPSW) 0)
+      × (byte 2 (getD (wordsOf o c map) atSysMarks 0) ≡ getD (c .marks) (sys FEPSW) 0)
+      × (byte 3 (getD (wordsOf o c map) atSysMarks 0) ≡ getD (c .marks) (sys EIPC) 0 + 2 * getD (c .marks) (sys FEPC) 0)
+  in-marks =
+      rw the-sys-marks
+      (marks-parts (getD (c .marks) (sys PSW) 0) (getD (c .marks) (sys EIPSW) 0) (getD (c .marks) (sys FEPSW) 0) (getD (c .marks) (sys EIPC) 0)
+        (getD (c .marks) (sys FEPC) 0) (w .small-marks 33) (w .small-marks 35) (w .small-marks 32) (w .small-marks 34))
+
+  core-back : coreIn (wordsOf o c map) ≡ o
+  core-back = λ i.
+      record {
+        pc = the-pc i; np = in-psw .0 i; ep = in-psw .1 i; id = in-psw .2 i;
+        ecr = the-ecr i; code = the-code i; nmi = in-waits .1 i; halted = in-waits .0 i;
+      }
+
+  regs-back : take 32 (wordsOf o c map) ≡ take 32 (c .nums)
+  regs-back = take-at (take 32 (c .nums)) _ 32 regs-long
+
+  nums-back : numsIn (wordsOf o c map) ≡ c .nums
+  nums-back =
+      let ecr : 0 ≡ getD (c .nums) 36 0 = omega (arith, w .small 36) in
+      ap₂ (λ (s t : List ℕ). s ++ t) regs-back (λ i. the-eipc i ∷ the-eipsw i ∷ the-fepc i ∷ the-fepsw i ∷ ecr i ∷ in-psw .3 i ∷ [])
+      ∙ six-there (c .nums) (w .nums)
+
+  marks-back : marksIn (wordsOf o c map) ≡ c .marks
+  marks-back =
+      let m = c .marks in
+      let k = formed-marks w in
+      let regs : bitsFrom (getD (wordsOf o c map) atRegMarks 0) 0 32 ≡ take 32 m =
+          ap (λ (x : ℕ). bitsFrom x 0 32) the-reg-marks
+          ∙ ap (λ (n : ℕ). bitsFrom (packBits (take 32 m)) 0 n) (sym (length-take-le 32 m (omega (arith, k .long))))
+          ∙ bits-pack (take 32 m) (regs-bits m k) in
+      let eipc : byte 3 (getD (wordsOf o c map) atSysMarks 0) % 2 ≡ getD m (sys EIPC) 0 =
+          ap (λ (x : ℕ). x % 2) (in-marks .3) ∙ omega (arith, k .eipc) in
+      let fepc : byte 3 (getD (wordsOf o c map) atSysMarks 0) / 2 % 2 ≡ getD m (sys FEPC) 0 =
+          ap (λ (x : ℕ). x / 2 % 2) (in-marks .3) ∙ omega (arith, k .eipc, k .fepc) in
+      let ecr : 0 ≡ getD m 36 0 = omega (arith, w .small-marks 36) in
+      let flags : byte 0 (getD (wordsOf o c map) atSysMarks 0) % 2 ^ 5 ≡ getD m (sys PSW) 0 =
+          ap (λ (x : ℕ). x % 2 ^ 5) (in-marks .0) ∙ omega (arith, w .small-marks 37) in
+      ap₂ (λ (s t : List ℕ). s ++ t) regs (λ i. eipc i ∷ in-marks .1 i ∷ fepc i ∷ in-marks .2 i ∷ ecr i ∷ flags i ∷ []) ∙ six-there m (k .long)
+
+  cells-back : cellsIn (wordsOf o c map) ≡ c
+  cells-back = ap₂ both nums-back marks-back
+
+  map-back : mapIn (wordsOf o c map) ≡ map
+  map-back = drop-after (take 32 (c .nums)) _ 11 regs-long
+
+pub apart-together : (o : Open) (c : Cells) (map : List ℕ) → WellFormed o c
+    → (coreIn (wordsOf o c map) ≡ o) × (cellsIn (wordsOf o c map) ≡ c) × (mapIn (wordsOf o c map) ≡ map)
+apart-together o c map w = (core-back o c map w, cells-back o c map w, map-back o c map w)
+
+-- The tests of STATE, one by one
+pub record Passed (ws : List ℕ) : Type 0 where
+  pub r0 : getD ws 0 0 ≡ 0
+  pub r0-mark : getD ws atRegMarks 0 % 2 ≡ 0
+  pub pc-even : getD ws atPC 0 % 2 ≡ 0
+  pub pc : getD ws atPC 0 ≤ 0xFFFFFE
+  pub psw : getD ws atPSW 0 ≤ 0xFF
+  pub eipsw : getD ws atEIPSW 0 ≤ 0xFF
+  pub fepsw : getD ws atFEPSW 0 ≤ 0xFF
+  pub eipc : getD ws atEIPC 0 ≤ 0xFFFFFF
+  pub fepc : getD ws atFEPC 0 ≤ 0xFFFFFF
+  pub code : goodCode (getD ws atCode 0) ≡ true
+  pub halted : byte 0 (getD ws atWaits 0) ≤ 1
+  pub nmi : byte 1 (getD ws atWaits 0) ≤ 1
+  pub filler : byte 2 (getD ws atWaits 0) ≡ 0
+  pub filler2 : byte 3 (getD ws atWaits 0) ≡ 0
+  pub psw-marks : byte 0 (getD ws atSysMarks 0) < 2 ^ 5
+  pub pc-marks : byte 3 (getD ws atSysMarks 0) ≤ 3
+
+and-true : {a b : Bool} → (a && b) ≡ true → (a ≡ true) × (b ≡ true)
+and-true {a} {b} h = go a b h
+  where
+    go : (a b : Bool) → (a && b) ≡ true → (a ≡ true) × (b ≡ true)
+    go true b h = (refl, h)
+    go false b h = let z : _≡_ {A = ℕ} 0 1 = cc in absurd (omega arith)
+
+true-and : {a b : Bool} → a ≡ true → b ≡ true → (a && b) ≡ true
+true-and p q = rw (p, q)
+
+pub passed : (ws : List ℕ) → goodState ws ≡ true → Passed ws
+unfolding goodState
+passed ws h =
+    let h1 = and-true h in
+    let h2 = and-true (h1 .1) in
+    let h3 = and-true (h2 .1) in
+    let h4 = and-true (h3 .1) in
+    let h5 = and-true (h4 .1) in
+    let h6 = and-true (h5 .1) in
+    let h7 = and-true (h6 .1) in
+    let h8 = and-true (h7 .1) in
+    let h9 = and-true (h8 .1) in
+    let h10 = and-true (h9 .1) in
+    let h11 = and-true (h10 .1) in
+    let h12 = and-true (h11 .1) in
+    let h13 = and-true (h12 .1) in
+    let h14 = and-true (h13 .1) in
+    let h15 = and-true (h14 .1) in
+    record {
+      r0 = eqb-true _ _ (h1 .0); r0-mark = eqb-true _ _ (h2 .0); pc-even = eqb-true _ _ (h3 .0); pc = leb-true _ _ (h4 .0);
+      psw = leb-true _ _ (h5 .0); eipsw = leb-true _ _ (h6 .0); fepsw = leb-true _ _ (h7 .0);
+      eipc = leb-true _ _ (h8 .0); fepc = leb-true _ _ (h9 .0); code = h10 .0;
+      halted = leb-true _ _ (h11 .0); nmi = leb-true _ _ (h12 .0); filler = eqb-true _ _ (h13 .0); filler2 = eqb-true _ _ (h14 .0);
+      psw-marks = ltb-true _ _ (h15 .0); pc-marks = leb-true _ _ (h15 .1);
+    }
+
+pub passes : (ws : List ℕ) → Passed ws → goodState ws ≡ true
+unfolding goodState
+passes ws p =
+    true-and (eq-eqb _ _ (p .r0)) (true-and (eq-eqb _ _ (p .r0-mark)) (true-and (eq-eqb _ _ (p .pc-even)) (true-and (le-leb _ _ (p .pc))
+    (true-and (le-leb _ _ (p .psw)) (true-and (le-leb _ _ (p .eipsw)) (true-and (le-leb _ _ (p .fepsw))
+    (true-and (le-leb _ _ (p .eipc)) (true-and (le-leb _ _ (p .fepc)) (true-and (p .code)
+    (true-and (le-leb _ _ (p .halted)) (true-and (le-leb _ _ (p .nmi)) (true-and (eq-eqb _ _ (p .filler)) (true-and (eq-eqb _ _ (p .filler2))
+    (true-and (lt-ltb _ _ (p .psw-marks)) (le-leb _ _ (p .pc-marks))))))))))))))))
+
+-- What a well-formed state puts together is words.
+pub formed-words : (o : Open) (c : Cells) (map : List ℕ) → WellFormed o c → Below (2 ^ 32) map → Below (2 ^ 32) (wordsOf o c map)
+formed-words o c map w h =
+    below-append (take 32 (c .nums)) _ (below-take (2 ^ 32) (c .nums) 32 (omega arith) (λ i l. simp (lt-ltb i 32 l) at (w .small i)))
+    (below-cons (omega (arith, w .pc-24)) (below-cons (omega arith) (below-cons (omega (arith, w .small 32)) (below-cons (omega (arith, w .small 33))
+    (below-cons (omega (arith, w .small 34)) (below-cons (omega (arith, w .small 35)) (below-cons (w .ecr) (below-cons (omega (arith, code-target (o .code) (w .code) .1))
+    (below-cons (omega (arith, w .halted, w .nmi)) (below-cons (pack-word (c .marks) 0 (formed-marks w))
+    (below-cons (omega (arith, w .small-marks 33, w .small-marks 35, w .small-marks 32, w .small-marks 34)) h)))))))))))
+
+-- What a well-formed state puts together passes.
+pub formed-good-state : (o : Open) (c : Cells) (map : List ℕ) → WellFormed o c → goodState (wordsOf o c map) ≡ true
+formed-good-state o c map w =
+    passes (wordsOf o c map)
+    (record {
+      r0 = List·getD-append (take 32 (c .nums)) _ 0 0 (omega (arith, regs-long o c map w)) ∙ getD-take 32 (c .nums) 0 0 (omega arith) ∙ w .r0;
+      r0-mark = ap (λ (x : ℕ). x % 2) (the-reg-marks o c map w)
+          ∙ omega (arith, pack-more (c .marks) 0 (formed-marks w) (omega arith), w .r0-mark);
+      pc-even = ap (λ (x : ℕ). x % 2) (the-pc o c map w) ∙ w .pc-even;
+      pc = omega (arith, the-pc o c map w, w .pc-even, w .pc-24);
+      psw = in-psw o c map w .4;
+      eipsw = omega (arith, the-eipsw o c map w, w .small 33);
+      fepsw = omega (arith, the-fepsw o c map w, w .small 35);
+      eipc = omega (arith, the-eipc o c map w, w .small 32);
+      fepc = omega (arith, the-fepc o c map w, w .small 34);
+      code = ap goodCode (the-code o c map w) ∙ w .code;
+      halted = omega (arith, in-waits o c map w .0, w .halted);
+      nmi = omega (arith, in-waits o c map w .1, w .nmi);
+      filler = in-waits o c map w .2;
+      filler2 = in-waits o c map w .3;
+      psw-marks = omega (arith, in-marks o c map w .0);
+      pc-marks = omega (arith, in-marks o c map w .3, w .small-marks 32, w .small-marks 34);
+    })
+
+-- a register's number and mark, within their bounds
+reg-limit : (i x : ℕ) → i < 32 → x < 2 ^ 32 → x < limit i
+reg-limit i x h l = simp (lt-ltb i 32 h) l
+
+reg-mark-limit : (i x : ℕ) → i < 32 → x < 2 → x < markLimit i
+reg-mark-limit i x h l = simp (lt-ltb i 32 h) l
+
+-- What passes is taken apart as a well-formed state, and put together as it was.
+module _ (ws : List ℕ) (long : length ws ≡ WORDS) (words : Below (2 ^ 32) ws) (good : goodState ws ≡ true) where
+  first-long : length (take 32 ws) ≡ 32
+  first-long = length-take-le 32 ws (omega arith)
+
+  bit-0 : getD ws atRegMarks 0 % 2 ≡ 0 → getD (marksIn ws) 0 0 ≡ 0
+  unfolding bitsFrom
+  bit-0 h = omega arith
+
+  pub good-state-formed : WellFormed (coreIn ws) (cellsIn ws)
+  good-state-formed =
+      let p = passed ws good in
+      record {
+        nums = length-append (take 32 ws) _ ∙ omega (arith, first-long);
+        marks = length-append (bitsFrom (getD ws atRegMarks 0) 0 32) _ ∙ omega (arith, bits-length (getD ws atRegMarks 0) 0 32);
+        r0 = List·getD-append (take 32 ws) _ 0 0 (omega (arith, first-long)) ∙ getD-take 32 ws 0 0 (omega arith) ∙ p .r0;
+        r0-mark = bit-0 (p .r0-mark);
+        small = each (λ (i x : ℕ). x < limit i) (take 32 ws) _ _ _ _ _ _ first-long
+            (λ i h. reg-limit i (getD (take 32 ws) i 0) h (rw (getD-take 32 ws i 0 h) (words .at i)))
+            (omega (arith, p .eipc)) (omega (arith, p .eipsw)) (omega (arith, p .fepc)) (omega (arith, p .fepsw)) (omega arith) (omega arith)
+            (λ i h. omega (arith, reset-well-formed .small i));
+        small-marks = each (λ (i x : ℕ). x < markLimit i) (bitsFrom (getD ws atRegMarks 0) 0 32) _ _ _ _ _ _ (bits-length (getD ws atRegMarks 0) 0 32)
+            (λ i h. reg-mark-limit i (getD (bitsFrom (getD ws atRegMarks 0) 0 32) i 0) h (bits-below (getD ws atRegMarks 0) 0 32 .at i))
+            (omega arith) (omega arith) (omega arith) (omega arith) (omega arith) (omega arith)
+            (λ i h. omega (arith, reset-well-formed .small-marks i));
+        pc-even = p .pc-even;
+        pc-24 = omega (arith, p .pc);
+        np = omega arith;
+        ep = omega arith;
+        id = omega arith;
+        ecr = words .at atECR;
+        code = p .code;
+        nmi = omega (arith, p .nmi);
+        halted = omega (arith, p .halted);
+      }
+
+  pub together-apart : wordsOf (coreIn ws) (cellsIn ws) (mapIn ws) ≡ ws
+  together-apart =
+      let p = passed ws good in
+      let n = numsIn ws in
+      let m = marksIn ws in
+      let bits = bitsFrom (getD ws atRegMarks 0) 0 32 in
+      let bl = bits-length (getD ws atRegMarks 0) 0 32 in
+      let regs : take 32 n ≡ take 32 ws = take-at (take 32 ws) _ 32 first-long in
+      let flags : getD n 37 0 ≡ getD ws atPSW 0 % 2 ^ 5 = after (take 32 ws) _ 5 first-long in
+      let psw : psw (coreIn ws) (cellsIn ws) .on ≡ getD ws atPSW 0 = rw flags (psw-whole (getD ws atPSW 0) (p .psw)) in
+      let eipc : getD n 32 0 ≡ getD ws atEIPC 0 = after (take 32 ws) _ 0 first-long in
+      let eipsw : getD n 33 0 ≡ getD ws atEIPSW 0 = after (take 32 ws) _ 1 first-long in
+      let fepc : getD n 34 0 ≡ getD ws atFEPC 0 = after (take 32 ws) _ 2 first-long in
+      let fepsw : getD n 35 0 ≡ getD ws atFEPSW 0 = after (take 32 ws) _ 3 first-long in
+      let waits = waits-whole (getD ws atWaits 0) (words .at atWaits) (p .filler) (p .filler2) in
+      let reg-marks : packBits (take 32 m) ≡ getD ws atRegMarks 0 =
+          ap packBits (take-at bits _ 32 bl) ∙ pack-bits (getD ws atRegMarks 0) 32 (words .at atRegMarks) in
+      let sys-marks : sysMarks m ≡ getD ws atSysMarks 0 =
+          rw (after bits _ 5 bl, after bits _ 1 bl, after bits _ 3 bl, after bits _ 0 bl, after bits _ 2 bl)
+          (marks-whole (getD ws atSysMarks 0) (words .at atSysMarks) (p .psw-marks) (p .pc-marks)) in
+      ap₂ (λ (s t : List ℕ). s ++ t) regs
+      (λ i. getD ws atPC 0 ∷ psw i ∷ eipc i ∷ eipsw i ∷ fepc i ∷ fepsw i ∷ getD ws atECR 0 ∷ getD ws atCode 0 ∷ waits i ∷ reg-marks i ∷ sys-marks i ∷ drop atMap ws)
+      ∙ eleven-there ws long

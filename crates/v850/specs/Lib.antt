@@ -1,0 +1,6 @@
+pub mod Block
+pub mod PackLaws
+pub mod BlockLaws
+pub mod Entry
+pub mod Handed
+pub mod EntryLaws

@@ -1,0 +1,285 @@
+// The block of 236 bytes as 59 words: taken apart once, and put together once.
+ghost use mathlib.Core.Path.{_≡_};
+ghost use mathlib.Core.List.{List, [], _∷_, _++_};
+ghost use Prim.Native.Nat.{ℕ, _+_, _*_, _^_, _<_};
+ghost use lib.ListN.{length, getD, take, drop, replicate};
+ghost use Rattle.machine.specs.Marked.{both};
+ghost use Rattle.machine.specs.Psw.{psw};
+ghost use Rattle.machine.specs.WellFormed.{WellFormed};
+ghost use Rattle.v850.specs.Block.{bytesOf, bytesOfWord, wordAt, wordsFrom, BYTES, WORDS, byte, mapIn, coreIn, numsIn, marksIn, packBits, wordsOf, goodState};
+ghost use Rattle.v850.specs.BlockLaws.{Marks, sysMarks};
+
+use machine::Open;
+
+// Which word is which. Words 0 to 31 are r0 to r31.
+const PC: usize = 32;
+const PSW: usize = 33;
+const EIPC: usize = 34;
+const EIPSW: usize = 35;
+const FEPC: usize = 36;
+const FEPSW: usize = 37;
+const ECR: usize = 38;
+const CODE: usize = 39;
+const WAITS: usize = 40;
+const REG_MARKS: usize = 41;
+const SYS_MARKS: usize = 42;
+const MAP: usize = 43;
+
+// Which cell is which. Cells 0 to 31 are r0 to r31.
+const CELL_EIPC: usize = 32;
+const CELL_EIPSW: usize = 33;
+const CELL_FEPC: usize = 34;
+const CELL_FEPSW: usize = 35;
+const CELL_ECR: usize = 36;
+const CELL_PSW: usize = 37;
+
+// A byte as a word.
+fn wide(x: u8) -> u32
+    ensures { λ r. ⌜ (r ≡ x) × (r < 2 ^ 8) ⌝ }
+{
+    x as u32
+}
+
+// Byte k of a word.
+fn byte(w: u32, k: u32) -> u32
+    requires { ⌜ k < 4 ⌝ }
+    ensures { λ r. ⌜ r ≡ byte k w ⌝ }
+{
+    (w >> (8 * k)) % 256
+}
+
+// Word i of the block.
+fn word_at(block: &[u8], i: usize) -> u32
+    requires { ⌜ (i < WORDS) × (length (now block) ≡ BYTES) ⌝ }
+    ensures { λ r. ⌜ r ≡ wordAt (now (block .entry)) i ⌝ }
+{
+    let k = 4 * i;
+    let b0 = wide(block[k]);
+    let b1 = wide(block[k + 1]);
+    let b2 = wide(block[k + 2]);
+    let b3 = wide(block[k + 3]);
+    b0 + 256 * (b1 + 256 * (b2 + 256 * b3))
+}
+
+// All words of the block.
+pub fn words(block: &[u8]) -> [u32; 59]
+    requires { ⌜ length (now block) ≡ BYTES ⌝ }
+    ensures { λ r. ⌜ r ≡ wordsFrom (now (block .entry)) 0 WORDS ⌝ }
+{
+    let mut ws = [0u32; 59];
+    let mut i: usize = 0;
+    while i < 59 {
+        ws[i] = word_at(block, i);
+        i += 1;
+    }
+    ws
+}
+
+// STATE: the tests, in the order of the definition.
+pub fn good_state(ws: &[u32; 59]) -> bool
+    ensures { λ r. ⌜ r ≡ goodState (now (ws .entry)) ⌝ }
+{
+    let pc = ws[PC];
+    let code = ws[CODE];
+    let waits = ws[WAITS];
+    let marks = ws[SYS_MARKS];
+    let good_code = (code == 0) | ((code % 16 == 0) & ((0x80 <= code) & (code <= 0xff0)));
+    let halted = byte(waits, 0);
+    let nmi = byte(waits, 1);
+    let filler = byte(waits, 2);
+    let filler2 = byte(waits, 3);
+    let psw_marks = byte(marks, 0);
+    let pc_marks = byte(marks, 3);
+    (ws[0] == 0)
+        & ((ws[REG_MARKS] % 2 == 0)
+            & ((pc % 2 == 0)
+                & ((pc <= 0xfffffe)
+                    & ((ws[PSW] <= 0xff)
+                        & ((ws[EIPSW] <= 0xff)
+                            & ((ws[FEPSW] <= 0xff)
+                                & ((ws[EIPC] <= 0xffffff)
+                                    & ((ws[FEPC] <= 0xffffff)
+                                        & (good_code
+                                            & ((halted <= 1)
+                                                & ((nmi <= 1)
+                                                    & ((filler == 0)
+                                                        & ((filler2 == 0) & ((psw_marks < 32) & (pc_marks <= 3)))))))))))))))
+}
+
+// Taken apart: the map.
+pub fn map_in(ws: &[u32; 59]) -> [u32; 16]
+    requires { ⌜ length (now ws) ≡ WORDS ⌝ }
+    ensures { λ r. ⌜ r ≡ mapIn (now (ws .entry)) ⌝ }
+{
+    let mut map = [0u32; 16];
+    let mut i: usize = 0;
+    while i < 16 {
+        map[i] = ws[MAP + i];
+        i += 1;
+    }
+    map
+}
+
+// What is never marked.
+pub fn core_in(ws: &[u32; 59]) -> Open
+    ensures { λ r. ⌜ r ≡ coreIn (now (ws .entry)) ⌝ }
+{
+    let psw = ws[PSW];
+    let waits = ws[WAITS];
+    Open {
+        pc: ws[PC],
+        np: (psw >> 7) % 2,
+        ep: (psw >> 6) % 2,
+        id: (psw >> 5) % 2,
+        ecr: ws[ECR],
+        code: ws[CODE],
+        nmi: byte(waits, 1),
+        halted: byte(waits, 0),
+    }
+}
+
+// The numbers of the cells.
+pub fn nums_in(ws: &[u32; 59]) -> [u32; 38]
+    requires { ⌜ length (now ws) ≡ WORDS ⌝ }
+    ensures { λ r. ⌜ r ≡ numsIn (now (ws .entry)) ⌝ }
+{
+    let mut cells = [0u32; 38];
+    let mut i: usize = 0;
+    while i < 32 {
+        cells[i] = ws[i];
+        i += 1;
+    }
+    cells[CELL_EIPC] = ws[EIPC];
+    cells[CELL_EIPSW] = ws[EIPSW];
+    cells[CELL_FEPC] = ws[FEPC];
+    cells[CELL_FEPSW] = ws[FEPSW];
+    cells[CELL_ECR] = 0;
+    cells[CELL_PSW] = ws[PSW] % 32;
+    cells
+}
+
+// Their marks.
+pub fn marks_in(ws: &[u32; 59]) -> [u8; 38]
+    ensures { λ r. ⌜ r ≡ marksIn (now (ws .entry)) ⌝ }
+{
+    let regs = ws[REG_MARKS];
+    let marks = ws[SYS_MARKS];
+    let mut tags = [0u8; 38];
+    let mut i: usize = 0;
+    while i < 32 {
+        tags[i] = ((regs >> i) % 2) as u8;
+        i += 1;
+    }
+    tags[CELL_EIPC] = (byte(marks, 3) % 2) as u8;
+    tags[CELL_EIPSW] = byte(marks, 1) as u8;
+    tags[CELL_FEPC] = (byte(marks, 3) / 2 % 2) as u8;
+    tags[CELL_FEPSW] = byte(marks, 2) as u8;
+    tags[CELL_ECR] = 0;
+    tags[CELL_PSW] = (byte(marks, 0) % 32) as u8;
+    tags
+}
+
+// Put together: PSW.
+fn psw(o: Open, cells: &[u32; 38]) -> u32
+    ensures { λ r. ⌜ ((m : List ℕ) → r ≡ psw o (both (now (cells .entry)) m) .on) ⌝ }
+{
+    cells[CELL_PSW] % 32 + 32 * (o.id % 2) + 64 * (o.ep % 2) + 128 * (o.np % 2)
+}
+
+// The word of the registers' marks.
+fn reg_marks(tags: &[u8; 38]) -> u32
+    requires { ⌜ Marks (now tags) ⌝ }
+    ensures { λ r. ⌜ r ≡ packBits (take 32 (now (tags .entry))) ⌝ }
+{
+    let mut r: u32 = 0;
+    let mut i: usize = 32;
+    while 0 < i {
+        i -= 1;
+        r = wide(tags[i]) + 2 * r;
+    }
+    r
+}
+
+// The word of the system registers' marks.
+fn sys_marks(tags: &[u8; 38]) -> u32
+    requires { ⌜ Marks (now tags) ⌝ }
+    ensures { λ r. ⌜ r ≡ sysMarks (now (tags .entry)) ⌝ }
+{
+    let flags = wide(tags[CELL_PSW] % 32);
+    let eipsw = wide(tags[CELL_EIPSW]);
+    let fepsw = wide(tags[CELL_FEPSW]);
+    let eipc = wide(tags[CELL_EIPC]);
+    let fepc = wide(tags[CELL_FEPC]);
+    flags + 0x100 * eipsw + 0x10000 * fepsw + 0x1000000 * (eipc + 2 * fepc)
+}
+
+// All words.
+pub fn words_of(o: Open, cells: &[u32; 38], tags: &[u8; 38], map: &[u32; 16]) -> [u32; 59]
+    requires { ⌜ WellFormed o (both (now cells) (now tags)) × (length (now map) ≡ 16) ⌝ }
+    ensures { λ r. ⌜ r ≡ wordsOf o (both (now (cells .entry)) (now (tags .entry))) (now (map .entry)) ⌝ }
+{
+    let mut ws = [0u32; 59];
+    let mut i: usize = 0;
+    while i < 32 {
+        ws[i] = cells[i];
+        i += 1;
+    }
+    ws[PC] = o.pc;
+    ws[PSW] = psw(o, cells);
+    ws[EIPC] = cells[CELL_EIPC];
+    ws[EIPSW] = cells[CELL_EIPSW];
+    ws[FEPC] = cells[CELL_FEPC];
+    ws[FEPSW] = cells[CELL_FEPSW];
+    ws[ECR] = o.ecr;
+    ws[CODE] = o.code;
+    ws[WAITS] = o.halted + 0x100 * o.nmi;
+    ws[REG_MARKS] = reg_marks(tags);
+    ws[SYS_MARKS] = sys_marks(tags);
+    let mut k: usize = 0;
+    while k < 16 {
+        ws[MAP + k] = map[k];
+        k += 1;
+    }
+    ws
+}
+
+// Word i of a block or a report, as four bytes.
+fn put_word(b: &mut [u8], i: usize, w: u32)
+    requires { ⌜ 4 * i + 3 < length (now b) ⌝ }
+    ensures { λ _. ⌜ now (b .exit) ≡ take (4 * i) (now (b .entry)) ++ (bytesOfWord w ++ drop (4 * i + 4) (now (b .entry))) ⌝ }
+{
+    let k = 4 * i;
+    b[k] = (w % 256) as u8;
+    b[k + 1] = ((w >> 8) % 256) as u8;
+    b[k + 2] = ((w >> 16) % 256) as u8;
+    b[k + 3] = ((w >> 24) % 256) as u8;
+}
+
+// All words, as bytes.
+pub fn put_words(block: &mut [u8], ws: &[u32; 59])
+    requires { ⌜ (length (now block) ≡ BYTES) × (length (now ws) ≡ WORDS) ⌝ }
+    ensures { λ _. ⌜ now (block .exit) ≡ bytesOf (now (ws .entry)) ⌝ }
+{
+    let mut i: usize = 0;
+    while i < 59 {
+        put_word(block, i, ws[i]);
+        i += 1;
+    }
+}
+
+// The report: steps and place.
+pub fn put_report(report: &mut [u8], steps: u32, place: u32)
+    requires { ⌜ length (now report) ≡ 8 ⌝ }
+    ensures { λ _. ⌜ now (report .exit) ≡ bytesOf (steps ∷ place ∷ []) ⌝ }
+{
+    put_word(report, 0, steps);
+    put_word(report, 1, place);
+}
+
+// The report of a refusal.
+pub fn clear_report(report: &mut [u8])
+    requires { ⌜ length (now report) ≡ 8 ⌝ }
+    ensures { λ _. ⌜ now (report .exit) ≡ replicate 8 0 ⌝ }
+{
+    put_report(report, 0, 0);
+}
