@@ -37,7 +37,7 @@ pub record AlikeWords (v w : List ℕ) : Type 0 where
 -- memories of the same size with the same mark bytes, and the same byte wherever there is no mark
 pub record AlikeMemories (memory marks memory′ marks′ : List ℕ) : Type 0 where
   pub sizes : length memory ≡ length memory′
-  pub marks : marks ≡ marks′
+  pub same : marks ≡ marks′
   pub bytes : (i : ℕ) → marked (getD marks i 0) ≡ false → getD memory i 0 ≡ getD memory′ i 0
 
 -- a call that passes SIZE, MAP and STATE
