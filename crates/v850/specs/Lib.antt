@@ -3,3 +3,7 @@ pub mod PackLaws
 pub mod BlockLaws
 pub mod Entry
 pub mod AlikeStarts
+pub mod SecrecyLaws
+pub mod Secrecy
+pub mod AnswerLaws
+pub mod Answers
