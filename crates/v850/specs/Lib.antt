@@ -4,3 +4,8 @@ pub mod BlockLaws
 pub mod Entry
 pub mod Handed
 pub mod EntryLaws
+pub mod AlikeStarts
+pub mod SecrecyLaws
+pub mod Secrecy
+pub mod AnswerLaws
+pub mod Answers
