@@ -1,16 +1,77 @@
 // What a host calls. Each entry tests its own arguments, and needs nothing of its caller.
 ghost use mathlib.Core.Path.{_≡_};
-ghost use Rattle.v850.specs.Entry.{Reset, reset, view};
+ghost use Rattle.machine.specs.Run.{number};
+ghost use Rattle.v850.specs.Entry.{Left, called, Reset, reset, view};
 ghost use Rattle.v850.specs.Handed.{viewFrom, onBy};
 
 use crate::block;
+use machine::Answer;
 use machine::Open;
 use state::map_check;
 use state::regions;
+use step::run;
 
 // The answers by number.
 const DONE: u32 = 0;
 const SIZE: u32 = 1;
+const MAP: u32 = 2;
+const STATE: u32 = 3;
+
+fn number(a: Answer) -> u32
+    ensures { λ r. ⌜ r ≡ number a ⌝ }
+{
+    match a {
+        Answer::Done => DONE,
+        Answer::Size => SIZE,
+        Answer::Map => MAP,
+        Answer::State => STATE,
+        Answer::Asleep => 4,
+        Answer::NoFetch => 5,
+        Answer::Undefined => 6,
+        Answer::Leak => 7,
+        Answer::NoRead => 8,
+        Answer::NoWrite => 9,
+    }
+}
+
+// The run: the checks SIZE, MAP and STATE in this order, then steps until the budget is used up or one is refused. The block is
+// taken apart once and put together once, and nothing here walks the memory or the marks.
+#[no_mangle]
+pub extern "C" fn v850_run(block: &mut [u8], memory: &mut [u8], marks: &mut [u8], report: &mut [u8], budget: u32) -> u32
+    ensures { λ r. ⌜ record { answer = r; block = now (block .exit); memory = now (memory .exit); marks = now (marks .exit); report = now (report .exit) } ≡ called (now (block .entry)) (now (memory .entry)) (now (marks .entry)) (now (report .entry)) budget ⌝ }
+{
+    if block.len() != 236 {
+        return SIZE;
+    }
+    if report.len() != 8 {
+        return SIZE;
+    }
+    if memory.len() > 65536 {
+        return SIZE;
+    }
+    if marks.len() != memory.len() {
+        return SIZE;
+    }
+    let ws = block::words(&*block);
+    let map = block::map_in(&ws);
+    if !map_check::good_map(&map, memory.len()) {
+        block::clear_report(report);
+        return MAP;
+    }
+    if !block::good_state(&ws) {
+        block::clear_report(report);
+        return STATE;
+    }
+    let core = block::core_in(&ws);
+    let mut cells = block::nums_in(&ws);
+    let mut tags = block::marks_in(&ws);
+    let e = run::run(budget, &map, core, &mut cells, &mut tags, memory, marks);
+    let left = block::words_of(e.core, &cells, &tags, &map);
+    block::put_words(block, &left);
+    block::put_report(report, e.steps, e.place);
+    let answer = e.answer;
+    number(answer)
+}
 
 // Reset: the map stays.
 #[no_mangle]
