@@ -11,5 +11,4 @@ pub mod Invariants
 pub mod Alike
 pub mod AlikeLaws
 pub mod Secrecy
-pub mod Tasks
 pub mod Samples

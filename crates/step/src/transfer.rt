@@ -1,22 +1,22 @@
 // Loads, stores and bit instructions.
 ghost use mathlib.Core.Path.{_≡_};
 ghost use Prim.Native.Nat.{_<_};
 ghost use Rattle.machine.specs.Marked.{both};
 ghost use Rattle.machine.specs.Memory.{address};
 ghost use Rattle.machine.specs.Step.{after, load, store, bitwise};
-ghost use Rattle.machine.specs.Tasks.{wentOf, Ready};
+ghost use Rattle.step.specs.Tasks.{wentOf, Ready};
 
-use crate::cells;
-use crate::core;
-use crate::memory;
-use crate::psw;
-use crate::regions;
-use crate::Answer;
-use crate::Open;
 use crate::Out;
-use crate::Spot;
+use crate::core;
 use insn::BitOp;
 use insn::Size;
+use machine::Answer;
+use machine::Open;
+use machine::Spot;
+use state::cells;
+use state::memory;
+use state::psw;
+use state::regions;
 use word::extend;
 
 // An operand's address, by its low 24 bits and with its low bits cleared.

@@ -4,21 +4,21 @@ use mathlib.Core.Bool.{Bool, true, false, cond}
 use mathlib.Core.List.{List}
 use Prim.Native.Nat.{ℕ, _<_}
 use lib.ListN.{length}
 use Rattle.machine.specs.declared.Open.{Open}
 use Rattle.machine.specs.declared.Answer.{Answer}
 use Rattle.machine.specs.declared.Answer.the-variants.{Done, Size, Map, State, Asleep, NoFetch, Undefined, Leak, NoRead, NoWrite}
 use Rattle.machine.specs.declared.Went.{Went}
 use Rattle.machine.specs.declared.Went.the-variants.{Next, Stop}
-use Rattle.machine.specs.declared.Out.{Out}
-use Rattle.machine.specs.declared.System.{System}
-use Rattle.machine.specs.declared.System.the-variants.{Ldsr, Stsr, Trap, Halt, Reti, Di, Ei}
-use Rattle.machine.specs.declared.Task.{Task}
-use Rattle.machine.specs.declared.Task.the-variants.{Compute, Load, Store, Bitwise, Jump, Branch, Link, Condition, System as OfSystem}
+use Rattle.step.specs.declared.Out.{Out}
+use Rattle.step.specs.declared.System.{System}
+use Rattle.step.specs.declared.System.the-variants.{Ldsr, Stsr, Trap, Halt, Reti, Di, Ei}
+use Rattle.step.specs.declared.Task.{Task}
+use Rattle.step.specs.declared.Task.the-variants.{Compute, Load, Store, Bitwise, Jump, Branch, Link, Condition, System as OfSystem}
 use Rattle.machine.specs.Marked.{Cells}
 use Rattle.machine.specs.Psw.{putReg, condition}
 use Rattle.machine.specs.Regions.{goodMap}
 use Rattle.machine.specs.Operations.{operate}
 use Rattle.machine.specs.Step.{Outcome, next, plus, modes, waits, load, store, bitwise, jmp, bcond, jarl, ldsr, system, trap, reti}
 
 abbrev pub goesOn : Answer → Bool
 goesOn Done = true

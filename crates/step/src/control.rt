@@ -1,18 +1,18 @@
 // Jumps, branches, system registers, exceptions and returns. None of them touches memory.
 ghost use mathlib.Core.Path.{_≡_};
 ghost use Prim.Native.Nat.{_<_, _^_};
 ghost use Rattle.machine.specs.Marked.{Cells, both};
 ghost use Rattle.machine.specs.Psw.{putReg, condition, sys};
 ghost use Rattle.machine.specs.Step.{after, next, plus, jmp, bcond, jarl, ldsr, system, exception, trap, illegal, return, reti, takeNmi, takeCode};
-ghost use Rattle.machine.specs.Tasks.{wentOf, doSystem, SystemFields};
+ghost use Rattle.step.specs.Tasks.{wentOf, doSystem, SystemFields};
 
-use crate::cells;
-use crate::core;
-use crate::psw;
-use crate::Open;
 use crate::Out;
 use crate::System;
-use crate::Tv;
+use crate::core;
+use machine::Open;
+use machine::Tv;
+use state::cells;
+use state::psw;
 use word::extend;
 
 // The system registers' numbers, and their cells: 32 more.

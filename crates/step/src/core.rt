@@ -1,12 +1,12 @@
 // What is never marked: PC, the mode bits, ECR and the requests; and how a step ends.
 ghost use mathlib.Core.Path.{_≡_};
 ghost use Prim.Native.Nat.{_<_, _^_};
 ghost use Rattle.machine.specs.Step.{goto, plus, modes, waits, fecc, eicc};
-ghost use Rattle.machine.specs.Tasks.{wentOf};
+ghost use Rattle.step.specs.Tasks.{wentOf};
 
-use crate::Answer;
-use crate::Open;
 use crate::Out;
+use machine::Answer;
+use machine::Open;
 use word::extend;
 
 pub fn goto(pc: u32, o: Open) -> Open
