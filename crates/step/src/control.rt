@@ -186,3 +186,20 @@ pub fn reti(o: Open, cells: &mut [u32; 38], tags: &mut [u8; 38]) -> Out
     }
     return_to(EIPC, EIPSW, o, cells, tags)
 }
+
+// An NMI is accepted: it is cleared, and HALT ends.
+pub fn take_nmi(o: Open, cells: &mut [u32; 38], tags: &mut [u8; 38]) -> Out
+    ensures { λ r. ⌜ ((m : Cells) → after (wentOf r) (both (now (cells .exit)) (now (tags .exit))) m ≡ takeNmi o (both (now (cells .entry)) (now (tags .entry))) m) ⌝ }
+{
+    save(o.pc, FEPSW, FEPC, o, cells, tags);
+    core::next(core::goto(0x10, core::fecc(0x10, core::modes(1, 0, 1, core::waits(o.code, 0, 0, o)))))
+}
+
+// A maskable code is accepted: it is cleared, and HALT ends.
+pub fn take_code(o: Open, cells: &mut [u32; 38], tags: &mut [u8; 38]) -> Out
+    requires { ⌜ o .code < 2 ^ 16 ⌝ }
+    ensures { λ r. ⌜ ((m : Cells) → after (wentOf r) (both (now (cells .exit)) (now (tags .exit))) m ≡ takeCode o (both (now (cells .entry)) (now (tags .entry))) m) ⌝ }
+{
+    save(o.pc, EIPSW, EIPC, o, cells, tags);
+    core::next(core::goto(o.code, core::eicc(o.code, core::modes(o.np, 0, 1, core::waits(0, o.nmi, 0, o)))))
+}

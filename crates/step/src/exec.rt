@@ -107,3 +107,41 @@ fn fetch_second(map: &[u32; 16], first: u16, at: u32, mem: &[u8], marks: &[u8]) 
         Spot::Nowhere => Fetched::Nowhere(at / 2 * 2),
     }
 }
+
+// The instruction at PC.
+fn instruction(map: &[u32; 16], o: Open, cells: &mut [u32; 38], tags: &mut [u8; 38], mem: &mut [u8], marks: &mut [u8]) -> Out
+    requires { ⌜ Ready (now map) (now mem) (now marks) ⌝ }
+    ensures { λ r. ⌜ after (wentOf r) (both (now (cells .exit)) (now (tags .exit))) (both (now (mem .exit)) (now (marks .exit))) ≡ instruction (now (map .entry)) o (both (now (cells .entry)) (now (tags .entry))) (both (now (mem .entry)) (now (marks .entry))) ⌝ }
+{
+    match fetch(map, o.pc, &*mem, &*marks) {
+        Fetched::Halves(first, second) => execute(decode::decode(first, second), map, o, cells, tags, mem, marks),
+        Fetched::Nowhere(a) => Out { answer: Answer::NoFetch, place: a, core: o },
+        Fetched::Secret => core::leak(o),
+    }
+}
+
+// One step: an NMI, a maskable code, HALT, and else the instruction.
+pub fn step(map: &[u32; 16], o: Open, cells: &mut [u32; 38], tags: &mut [u8; 38], mem: &mut [u8], marks: &mut [u8]) -> Out
+    requires { ⌜ Ready (now map) (now mem) (now marks) × (o .code < 2 ^ 16) ⌝ }
+    ensures { λ r. ⌜ after (wentOf r) (both (now (cells .exit)) (now (tags .exit))) (both (now (mem .exit)) (now (marks .exit))) ≡ step (now (map .entry)) o (both (now (cells .entry)) (now (tags .entry))) (both (now (mem .entry)) (now (marks .entry))) ⌝ }
+{
+    if (o.nmi | o.code | o.halted) == 0 {
+        return instruction(map, o, cells, tags, mem, marks);
+    }
+    if o.nmi == 1 {
+        if o.np == 0 {
+            return control::take_nmi(o, cells, tags);
+        }
+    }
+    if o.code != 0 {
+        if o.np == 0 {
+            if o.id == 0 {
+                return control::take_code(o, cells, tags);
+            }
+        }
+    }
+    if o.halted == 1 {
+        return Out { answer: Answer::Asleep, place: 0, core: o };
+    }
+    instruction(map, o, cells, tags, mem, marks)
+}
