@@ -24,7 +24,7 @@ use Rattle.machine.specs.declared.Open.{Open}
 use Rattle.machine.specs.declared.Kind.{Kind}
 use Rattle.machine.specs.Marked.{tv, plain, lift1, lift2, liftAll, Cells, both, marked, cell, put, edit}
 use Rattle.machine.specs.Psw.{reg, putReg, PSW, sys, Bits, bits, bitsAt, putBits}
-use Rattle.machine.specs.Psw.{Rule, kept, constant, computed, raised, Rules, follow, followAll, rulesOf, told, everyFlag, setFlags, setZ}
+use Rattle.machine.specs.Psw.{Rule, kept, constant, computed, raised, Rules, follow, followAll, rulesOf, told, everyFlag, quiet, setFlags, setZ}
 use Rattle.machine.specs.Psw.{condition, psw, putPswFlags, mode, spread, gathered}
 use Rattle.machine.specs.Memory.{bytesAt, putBytes}
 use Rattle.machine.specs.Alike.{bitCells, noBitCells, Alike}
@@ -256,7 +256,8 @@ module _ {c d : Cells} (h : TwinCells c d) where
       → TwinCells (setFlags k (f (x .val) (y .val)) (x .mark || y .mark) c) (setFlags k (f (v .val) (w .val)) (v .mark || w .mark) d)
   unfolding setFlags
   setFlags-alike k f (same m p) (same n q) =
-      putBits-alike (sys PSW) refl (followed-alike (rulesOf k) (m || n) (of-two (λ a b. told (f a b)) m n p q) flag-bits) h
+      either TwinCells (quiet k) h
+      (putBits-alike (sys PSW) refl (followed-alike (rulesOf k) (m || n) (of-two (λ a b. told (f a b)) m n p q) flag-bits) h)
 
   pub setZ-alike : (f : ℕ → Bool) {v w : Tv} → AlikeTv v w → TwinCells (setZ (f (v .val)) (v .mark) c) (setZ (f (w .val)) (w .mark) d)
   unfolding setZ

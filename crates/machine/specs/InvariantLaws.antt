@@ -33,7 +33,7 @@ use Rattle.machine.specs.declared.Went.the-variants.{Next, Stop}
 use Rattle.machine.specs.declared.Spot.{Spot}
 use Rattle.machine.specs.declared.Spot.the-variants.{At, Nowhere}
 use Rattle.machine.specs.Marked.{plain, lift1, vals, markOf, Cells, both, cell, put, edit}
-use Rattle.machine.specs.Psw.{reg, putReg, Bits, EIPC, EIPSW, FEPC, FEPSW, PSW, sys, flags, flagMarks, putFlags, rulesOf, followAll, told, everyFlag, setFlags, withZ, setZ, condition, psw, putBits, putPswFlags, spread}
+use Rattle.machine.specs.Psw.{reg, putReg, Bits, EIPC, EIPSW, FEPC, FEPSW, PSW, sys, flags, flagMarks, putFlags, rulesOf, followAll, told, everyFlag, quiet, setFlags, withZ, setZ, condition, psw, putBits, putPswFlags, spread}
 use Rattle.machine.specs.Regions.{find}
 use Rattle.machine.specs.Memory.{bytesAt, littleEndian, extended, byteOf, putBytes, changed}
 use Rattle.machine.specs.Operations.{operation, second, operate}
@@ -107,7 +107,8 @@ putFlags-good g f m = set-good g (sys PSW) (packed f) (packed m) (λ e. omega ar
 pub setFlags-good : {c : Cells} → GoodCells c → (k : Kind) (a : Computed) (mark : Bool) → GoodCells (setFlags k a mark c)
 unfolding setFlags
 setFlags-good {c} g k a mark =
-    putFlags-good g (followAll (rulesOf k) (flags c) (told a)) (followAll (rulesOf k) (flagMarks c) (everyFlag mark))
+    cond-holds GoodCells (quiet k) g
+    (putFlags-good g (followAll (rulesOf k) (flags c) (told a)) (followAll (rulesOf k) (flagMarks c) (everyFlag mark)))
 
 pub setZ-good : {c : Cells} → GoodCells c → (z mark : Bool) → GoodCells (setZ z mark c)
 unfolding setZ

@@ -112,10 +112,21 @@ told a = record { z = a .z; s = a .s; ov = a .ov; cy = a .cy; sat = a .ov }
 abbrev pub everyFlag : Bool → Flags
 everyFlag b = record { z = b; s = b; ov = b; cy = b; sat = b }
 
+-- a quiet operation touches no flag
+abbrev pub quiet : Kind → Bool
+quiet Quiet = true
+quiet Logic = false
+quiet Mask = false
+quiet Shift = false
+quiet Divide = false
+quiet Arith = false
+quiet Saturate = false
+
 -- the flags after an operation with this result, whose operands have this mark
 unfoldable pub setFlags : Kind → Computed → Bool → Cells → Cells
 setFlags k a mark c =
-    putFlags (followAll (rulesOf k) (flags c) (told a)) (followAll (rulesOf k) (flagMarks c) (everyFlag mark)) c
+    cond (quiet k) c
+      (putFlags (followAll (rulesOf k) (flags c) (told a)) (followAll (rulesOf k) (flagMarks c) (everyFlag mark)) c)
 
 -- a bit instruction computes Z alone
 abbrev pub withZ : Bool → Flags → Flags
