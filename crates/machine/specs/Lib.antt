@@ -1,6 +1,7 @@
 pub mod Marked
 pub mod Psw
 pub mod Regions
+pub mod RegionLaws
 pub mod Memory
 pub mod Operations
 pub mod Step

@@ -1,0 +1,14 @@
+// The parts of the machine's state in code: cells with marks, PSW, operations on words, regions and memory.
+
+pub mod cells;
+pub mod map_check;
+pub mod memory;
+pub mod operations;
+pub mod psw;
+pub mod regions;
+
+// A bit of a byte in memory: Z of a bit instruction, 1 if the bit is 0, and the byte's mark.
+pub struct Tested {
+    pub z: bool,
+    pub mark: bool,
+}

@@ -1,0 +1,171 @@
+// The flags, PSW and the saved PSWs. Cell 37 holds the flags as PSW bits 0 to 4, and its tag their marks, bit for bit.
+ghost use mathlib.Core.Path.{_≡_};
+ghost use mathlib.Core.Bool.{cond};
+ghost use mathlib.Core.List.{List};
+ghost use Prim.Native.Nat.{ℕ, _≤_, _<_};
+ghost use Rattle.machine.specs.Marked.{both};
+ghost use Rattle.machine.specs.Psw.{PSW, sys, bits, bitsAt, putBits, setFlags, setZ, condition, psw, putPswFlags, mode, spread, gathered};
+use machine::Kind;
+use machine::Open;
+use machine::Tv;
+use word::Computed;
+use word::flags;
+
+const FLAGS: usize = 37;
+
+// A bit of a sum of flags, and of a sum of marks.
+fn on(b: bool, bit: u32) -> u32
+    ensures { λ r. ⌜ (r ≡ cond b bit 0) × (r ≤ bit) ⌝ }
+{
+    if b { bit } else { 0 }
+}
+
+fn marks(mark: bool, bits: u8) -> u8
+    ensures { λ r. ⌜ (r ≡ cond mark bits 0) × (r ≤ bits) ⌝ }
+{
+    if mark { bits } else { 0 }
+}
+
+// Marks as a number like the flags.
+fn wide(m: u8) -> u32
+    ensures { λ r. ⌜ r ≡ m ⌝ }
+{
+    m as u32
+}
+
+// OV becomes 0; CY and SAT stay.
+pub fn logic_flags(a: Computed, mark: bool, cells: &mut [u32; 38], tags: &mut [u8; 38])
+    ensures { λ _. ⌜ both (now (cells .exit)) (now (tags .exit)) ≡ setFlags Kind.Logic a mark (both (now (cells .entry)) (now (tags .entry))) ⌝ }
+{
+    cells[FLAGS] = on(a.z, 1) + on(a.s, 2) + cells[FLAGS] / 8 % 4 * 8;
+    tags[FLAGS] = marks(mark, 3) + tags[FLAGS] / 8 % 4 * 8;
+}
+
+// S and OV become 0; CY and SAT stay.
+pub fn mask_flags(a: Computed, mark: bool, cells: &mut [u32; 38], tags: &mut [u8; 38])
+    ensures { λ _. ⌜ both (now (cells .exit)) (now (tags .exit)) ≡ setFlags Kind.Mask a mark (both (now (cells .entry)) (now (tags .entry))) ⌝ }
+{
+    cells[FLAGS] = on(a.z, 1) + cells[FLAGS] / 8 % 4 * 8;
+    tags[FLAGS] = marks(mark, 1) + tags[FLAGS] / 8 % 4 * 8;
+}
+
+// OV becomes 0; SAT stays.
+pub fn shift_flags(a: Computed, mark: bool, cells: &mut [u32; 38], tags: &mut [u8; 38])
+    ensures { λ _. ⌜ both (now (cells .exit)) (now (tags .exit)) ≡ setFlags Kind.Shift a mark (both (now (cells .entry)) (now (tags .entry))) ⌝ }
+{
+    cells[FLAGS] = on(a.z, 1) + on(a.s, 2) + on(a.cy, 8) + cells[FLAGS] / 16 % 2 * 16;
+    tags[FLAGS] = marks(mark, 11) + tags[FLAGS] / 16 % 2 * 16;
+}
+
+// CY and SAT stay.
+pub fn divide_flags(a: Computed, mark: bool, cells: &mut [u32; 38], tags: &mut [u8; 38])
+    ensures { λ _. ⌜ both (now (cells .exit)) (now (tags .exit)) ≡ setFlags Kind.Divide a mark (both (now (cells .entry)) (now (tags .entry))) ⌝ }
+{
+    cells[FLAGS] = on(a.z, 1) + on(a.s, 2) + on(a.ov, 4) + cells[FLAGS] / 8 % 4 * 8;
+    tags[FLAGS] = marks(mark, 7) + tags[FLAGS] / 8 % 4 * 8;
+}
+
+// SAT stays.
+pub fn arith_flags(a: Computed, mark: bool, cells: &mut [u32; 38], tags: &mut [u8; 38])
+    ensures { λ _. ⌜ both (now (cells .exit)) (now (tags .exit)) ≡ setFlags Kind.Arith a mark (both (now (cells .entry)) (now (tags .entry))) ⌝ }
+{
+    cells[FLAGS] = on(a.z, 1) + on(a.s, 2) + on(a.ov, 4) + on(a.cy, 8) + cells[FLAGS] / 16 % 2 * 16;
+    tags[FLAGS] = marks(mark, 15) + tags[FLAGS] / 16 % 2 * 16;
+}
+
+// SAT is raised by OV, and its mark is added to.
+pub fn saturate_flags(a: Computed, mark: bool, cells: &mut [u32; 38], tags: &mut [u8; 38])
+    ensures { λ _. ⌜ both (now (cells .exit)) (now (tags .exit)) ≡ setFlags Kind.Saturate a mark (both (now (cells .entry)) (now (tags .entry))) ⌝ }
+{
+    let sat = (cells[FLAGS] / 16 % 2 == 1) | a.ov;
+    let sat_mark = (tags[FLAGS] / 16 % 2 == 1) | mark;
+    cells[FLAGS] = on(a.z, 1) + on(a.s, 2) + on(a.ov, 4) + on(a.cy, 8) + on(sat, 16);
+    tags[FLAGS] = marks(mark, 15) + marks(sat_mark, 16);
+}
+
+// Z alone.
+pub fn set_z(z: bool, mark: bool, cells: &mut [u32; 38], tags: &mut [u8; 38])
+    ensures { λ _. ⌜ both (now (cells .exit)) (now (tags .exit)) ≡ setZ z mark (both (now (cells .entry)) (now (tags .entry))) ⌝ }
+{
+    cells[FLAGS] = on(z, 1) + cells[FLAGS] / 2 % 16 * 2;
+    tags[FLAGS] = marks(mark, 1) + tags[FLAGS] / 2 % 16 * 2;
+}
+
+// Condition k as a value, marked if it reads a marked flag.
+pub fn condition(k: u32, cells: &[u32; 38], tags: &[u8; 38]) -> Tv
+    ensures { λ r. ⌜ r ≡ condition k (both (now (cells .entry)) (now (tags .entry))) ⌝ }
+{
+    Tv {
+        val: on(flags::holds(k, cells[FLAGS]), 1),
+        mark: flags::reads(k, wide(tags[FLAGS])),
+    }
+}
+
+// PSW: NP, EP and ID above the flags.
+fn psw(o: Open, cells: &[u32; 38]) -> u32
+    ensures { λ r. ⌜ ((m : List ℕ) → r ≡ psw o (both (now (cells .entry)) m) .on) ⌝ }
+{
+    cells[FLAGS] % 32 + 32 * (o.id % 2) + 64 * (o.ep % 2) + 128 * (o.np % 2)
+}
+
+// PSW to the cell of a saved PSW.
+pub fn save_psw(i: u32, o: Open, cells: &mut [u32; 38], tags: &mut [u8; 38])
+    requires { ⌜ i < 38 ⌝ }
+    ensures { λ _. ⌜ both (now (cells .exit)) (now (tags .exit)) ≡ putBits i (psw o (both (now (cells .entry)) (now (tags .entry)))) (both (now (cells .entry)) (now (tags .entry))) ⌝ }
+{
+    let k = i as usize;
+    cells[k] = psw(o, &*cells);
+    tags[k] = tags[FLAGS] % 32;
+}
+
+// The flags out of the bits of a cell.
+pub fn put_flags(w: u32, m: u8, cells: &mut [u32; 38], tags: &mut [u8; 38])
+    ensures { λ _. ⌜ both (now (cells .exit)) (now (tags .exit)) ≡ putPswFlags (bits w m) (both (now (cells .entry)) (now (tags .entry))) ⌝ }
+{
+    cells[FLAGS] = w % 32;
+    tags[FLAGS] = m % 32;
+}
+
+// NP, EP and ID of the saved PSW in cell i, as one value.
+pub fn mode(i: u32, cells: &[u32; 38], tags: &[u8; 38]) -> Tv
+    requires { ⌜ i < 38 ⌝ }
+    ensures { λ r. ⌜ r ≡ mode (bitsAt i (both (now (cells .entry)) (now (tags .entry)))) ⌝ }
+{
+    let k = i as usize;
+    Tv {
+        val: cells[k] / 32 % 8,
+        mark: tags[k] / 32 % 8 != 0,
+    }
+}
+
+// A value to the cell of a saved PSW: all bits marked, or none.
+pub fn put_spread(i: u32, v: Tv, cells: &mut [u32; 38], tags: &mut [u8; 38])
+    requires { ⌜ i < 38 ⌝ }
+    ensures { λ _. ⌜ both (now (cells .exit)) (now (tags .exit)) ≡ putBits i (spread v) (both (now (cells .entry)) (now (tags .entry))) ⌝ }
+{
+    let k = i as usize;
+    cells[k] = v.val % 256;
+    tags[k] = marks(v.mark, 255);
+}
+
+// The saved PSW in cell i as a value, marked if one of its bits is.
+pub fn gathered(i: u32, cells: &[u32; 38], tags: &[u8; 38]) -> Tv
+    requires { ⌜ i < 38 ⌝ }
+    ensures { λ r. ⌜ r ≡ gathered (bitsAt i (both (now (cells .entry)) (now (tags .entry)))) ⌝ }
+{
+    let k = i as usize;
+    Tv {
+        val: cells[k] % 256,
+        mark: wide(tags[k]) % 256 != 0,
+    }
+}
+
+// PSW as a value.
+pub fn gathered_psw(o: Open, cells: &[u32; 38], tags: &[u8; 38]) -> Tv
+    ensures { λ r. ⌜ r ≡ gathered (psw o (both (now (cells .entry)) (now (tags .entry)))) ⌝ }
+{
+    Tv {
+        val: psw(o, cells),
+        mark: tags[FLAGS] % 32 != 0,
+    }
+}
