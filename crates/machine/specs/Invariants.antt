@@ -108,7 +108,15 @@ state : {o : Open} {c m : Cells} → WellFormed o c → Bytes m → State o c m
 state w b =
     record {
       core = record {
-        pc-even = w .pc-even; pc-24 = w .pc-24; np = w .np; ep = w .ep; id = w .id; ecr = w .ecr; code = w .code; nmi = w .nmi; halted = w .halted;
+        pc-even = w .pc-even;
+        pc-24 = w .pc-24;
+        np = w .np;
+        ep = w .ep;
+        id = w .id;
+        ecr = w .ecr;
+        code = w .code;
+        nmi = w .nmi;
+        halted = w .halted;
       };
       cells = record { nums = w .nums; marks = w .marks; r0 = w .r0; r0-mark = w .r0-mark; small = w .small; small-marks = w .small-marks };
       bytes = b;
@@ -117,11 +125,26 @@ state w b =
 well-formed : {o : Open} {c m : Cells} → State o c m → WellFormed o c × Bytes m
 well-formed s =
     let w = s .core in
-    let g = s .cells in
-    (record {
-       nums = g .nums; marks = g .marks; r0 = g .r0; r0-mark = g .r0-mark; small = g .small; small-marks = g .small-marks;
-       pc-even = w .pc-even; pc-24 = w .pc-24; np = w .np; ep = w .ep; id = w .id; ecr = w .ecr; code = w .code; nmi = w .nmi; halted = w .halted;
-     }, s .bytes)
+    let g = s .cells in (
+      record {
+        nums = g .nums;
+        marks = g .marks;
+        r0 = g .r0;
+        r0-mark = g .r0-mark;
+        small = g .small;
+        small-marks = g .small-marks;
+        pc-even = w .pc-even;
+        pc-24 = w .pc-24;
+        np = w .np;
+        ep = w .ep;
+        id = w .id;
+        ecr = w .ecr;
+        code = w .code;
+        nmi = w .nmi;
+        halted = w .halted;
+      },
+      s .bytes,
+    )
 
 -- Operands in range. An immediate of at most 32 bits is a word
 immediate-word : (k : ℕ) → k ≤ 32 → (b : Bool) (n : ℕ) → T (cond b (isUnsigned k n) (isSigned k n)) → n < W
@@ -200,8 +223,8 @@ module _ (map : List ℕ) {o : Open} {c m : Cells} (s : State o c m) where
       (cond-ends (eqb regid FEPC) (on (ahead 4 refl) (putLow-good fe (s .cells) v))
       (cond-ends (eqb regid FEPSW) (on (ahead 4 refl) (putSpread-good fe (s .cells) v))
       (reveal-ends o v _ (on
-        (plus-good (modes-good (s .core) (w / 2 ^ 7 % 2) (w / 2 ^ 6 % 2) (w / 2 ^ 5 % 2) (omega arith) (omega arith) (omega arith)) 4 refl)
-        (putPswFlags-good (s .cells) (bits w 0)))))))
+      (plus-good (modes-good (s .core) (w / 2 ^ 7 % 2) (w / 2 ^ 6 % 2) (w / 2 ^ 5 % 2) (omega arith) (omega arith) (omega arith)) 4 refl)
+      (putPswFlags-good (s .cells) (bits w 0)))))))
 
   system-word : (regid : ℕ) → IsWord (system regid o c)
   unfolding system
@@ -231,9 +254,9 @@ module _ (map : List ℕ) {o : Open} {c m : Cells} (s : State o c m) where
       let a = cell c (sys pc) .val in
       let b = mode (bitsAt (sys saved) c) .val in
       reveal-ends o _ _ (reveal-ends o _ _ (on
-        (goto-good (modes-good (s .core) (b / 2 ^ 2 % 2) (b / 2 % 2) (b % 2) (omega arith) (omega arith) (omega arith)) (a / 2 * 2)
-          (omega arith) (omega (arith, saved-pc k (s .cells))))
-        (putPswFlags-good (s .cells) (bitsAt (sys saved) c))))
+      (goto-good (modes-good (s .core) (b / 2 ^ 2 % 2) (b / 2 % 2) (b % 2) (omega arith) (omega arith) (omega arith)) (a / 2 * 2)
+      (omega arith) (omega (arith, saved-pc k (s .cells))))
+      (putPswFlags-good (s .cells) (bitsAt (sys saved) c))))
 
   bcond-formed : (cc disp : ℕ) → disp % 2 ≡ 0 → Formed (bcond cc disp o c m)
   unfolding bcond
@@ -355,11 +378,21 @@ run-well-formed budget n map o c m w b =
 pub reset-well-formed : WellFormed resetOpen resetCells
 reset-well-formed =
     record {
-      nums = refl; marks = refl; r0 = refl; r0-mark = refl;
+      nums = refl;
+      marks = refl;
+      r0 = refl;
+      r0-mark = refl;
       small = λ i. zero-small 38 i (limit i) (limit-pos i);
       small-marks = λ i. zero-small 38 i (markLimit i) (markLimit-pos i);
-      pc-even = refl; pc-24 = omega arith; np = omega arith; ep = omega arith; id = omega arith; ecr = omega arith;
-      code = refl; nmi = omega arith; halted = omega arith;
+      pc-even = refl;
+      pc-24 = omega arith;
+      np = omega arith;
+      ep = omega arith;
+      id = omega arith;
+      ecr = omega arith;
+      code = refl;
+      nmi = omega arith;
+      halted = omega arith;
     }
 
 -- NP, EP and ID are never marked.

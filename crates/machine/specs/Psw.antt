@@ -126,7 +126,7 @@ quiet Saturate = false
 unfoldable pub setFlags : Kind → Computed → Bool → Cells → Cells
 setFlags k a mark c =
     cond (quiet k) c
-      (putFlags (followAll (rulesOf k) (flags c) (told a)) (followAll (rulesOf k) (flagMarks c) (everyFlag mark)) c)
+    (putFlags (followAll (rulesOf k) (flags c) (told a)) (followAll (rulesOf k) (flagMarks c) (everyFlag mark)) c)
 
 -- a bit instruction computes Z alone
 abbrev pub withZ : Bool → Flags → Flags

@@ -1,6 +1,5 @@
 // The machine: its state, one step of it, and a run.
 
-
 // A value with its mark.
 pub struct Tv {
     pub val: u32,

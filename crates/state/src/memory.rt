@@ -8,9 +8,9 @@ ghost use lib.ListN.{length, getD, set};
 ghost use Rattle.machine.specs.Marked.{both, liftAll, cell, edit};
 ghost use Rattle.machine.specs.Memory.{width, aligned, bytesAt, littleEndian, extended, putBytes, changed, tests};
 use crate::Tested;
-use machine::Tv;
 use insn::BitOp;
 use insn::Size;
+use machine::Tv;
 use word::extend;
 
 pub fn aligned(size: Size, a: u32) -> u32

@@ -4,12 +4,17 @@ use mathlib.Core.Bool.{Bool, true, false, cond}
 use mathlib.Core.List.{List}
 use Prim.Native.Nat.{ℕ, _<_}
 use lib.ListN.{length}
+use Rattle.insn.specs.declared.Decoded.{Decoded}
+use Rattle.insn.specs.declared.Decoded.the-variants as decoded
+use Rattle.insn.specs.Coding.{inRange, decode}
 use Rattle.machine.specs.declared.Open.{Open}
 use Rattle.machine.specs.declared.Answer.{Answer}
 use Rattle.machine.specs.declared.Answer.the-variants.{Done, Size, Map, State, Asleep, NoFetch, Undefined, Leak, NoRead, NoWrite}
 use Rattle.machine.specs.declared.Went.{Went}
 use Rattle.machine.specs.declared.Went.the-variants.{Next, Stop}
 use Rattle.step.specs.declared.Out.{Out}
+use Rattle.step.specs.declared.Fetched.{Fetched}
+use Rattle.step.specs.declared.Fetched.the-variants.{Halves, Nowhere, Secret}
 use Rattle.step.specs.declared.System.{System}
 use Rattle.step.specs.declared.System.the-variants.{Ldsr, Stsr, Trap, Halt, Reti, Di, Ei}
 use Rattle.step.specs.declared.Task.{Task}
@@ -18,7 +23,7 @@ use Rattle.machine.specs.Marked.{Cells}
 use Rattle.machine.specs.Psw.{putReg, condition}
 use Rattle.machine.specs.Regions.{goodMap}
 use Rattle.machine.specs.Operations.{operate}
-use Rattle.machine.specs.Step.{Outcome, next, plus, modes, waits, load, store, bitwise, jmp, bcond, jarl, ldsr, system, trap, reti}
+use Rattle.machine.specs.Step.{Outcome, execute, refuse, next, plus, modes, waits, load, store, bitwise, jmp, bcond, jarl, ldsr, system, trap, reti}
 
 abbrev pub goesOn : Answer → Bool
 goesOn Done = true
@@ -80,3 +85,15 @@ TaskFields (OfSystem s) = SystemFields s
 pub record Ready (map mem marks : List ℕ) : Type 0 where
   pub good : goodMap map (length mem) ≡ true
   pub same : length mem ≡ length marks
+
+-- what a fetch found, carried on: a second halfword of a short form is 0, and is not looked at
+abbrev pub fetched : Fetched → List ℕ → Open → Cells → Cells → Outcome
+fetched (Halves h w) map o c m = execute (decode h w) map o c m
+fetched (Nowhere a) map o c m = refuse NoFetch a c m
+fetched Secret map o c m = refuse Leak (o .pc) c m
+
+-- a decoded instruction is in range
+abbrev pub DecodedFields : Decoded → Type 0
+DecodedFields (decoded.Valid i) = inRange i ≡ true
+DecodedFields decoded.Illegal = Unit
+DecodedFields decoded.Undefined = Unit

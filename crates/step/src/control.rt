@@ -1,11 +1,10 @@
 // Jumps, branches, system registers, exceptions and returns. None of them touches memory.
 ghost use mathlib.Core.Path.{_≡_};
-ghost use Prim.Native.Nat.{_<_, _^_};
+ghost use Prim.Native.Nat.{_<_, _/_, _%_, _^_};
 ghost use Rattle.machine.specs.Marked.{Cells, both};
-ghost use Rattle.machine.specs.Psw.{putReg, condition, sys};
-ghost use Rattle.machine.specs.Step.{after, next, plus, jmp, bcond, jarl, ldsr, system, exception, trap, illegal, return, reti, takeNmi, takeCode};
+ghost use Rattle.machine.specs.Psw.{putReg, condition, sys, bits, putPswFlags};
+ghost use Rattle.machine.specs.Step.{after, reveal, next, plus, modes, savePc, savePsw, jmp, bcond, jarl, ldsr, system, exception, trap, illegal, return, reti, takeNmi, takeCode};
 ghost use Rattle.step.specs.Tasks.{wentOf, doSystem, SystemFields};
-
 use crate::Out;
 use crate::System;
 use crate::core;
@@ -15,11 +14,21 @@ use state::cells;
 use state::psw;
 use word::extend;
 
-// The system registers' numbers, and their cells: 32 more.
-const EIPC: u32 = 32;
-const EIPSW: u32 = 33;
-const FEPC: u32 = 34;
-const FEPSW: u32 = 35;
+// The system registers' numbers. Register n has cell 32 + n.
+const EIPC: u32 = 0;
+
+const EIPSW: u32 = 1;
+
+const FEPC: u32 = 2;
+
+const FEPSW: u32 = 3;
+
+fn sys(n: u32) -> u32
+    requires { ⌜ n < 6 ⌝ }
+    ensures { λ r. ⌜ r ≡ sys n ⌝ }
+{
+    32 + n
+}
 
 pub fn jump(base: u32, o: Open, cells: &[u32; 38], tags: &[u8; 38]) -> Out
     requires { ⌜ base < 32 ⌝ }
@@ -51,12 +60,26 @@ pub fn link(disp: u32, target: u32, o: Open, cells: &mut [u32; 38], tags: &mut [
     requires { ⌜ target < 32 ⌝ }
     ensures { λ r. ⌜ ((m : Cells) → after (wentOf r) (both (now (cells .exit)) (now (tags .exit))) m ≡ jarl disp target o (both (now (cells .entry)) (now (tags .entry))) m) ⌝ }
 {
-    cells::put_reg(cells, tags, target, Tv { val: extend::sum24(o.pc, 4), mark: false });
+    cells::put_reg(
+        cells,
+        tags,
+        target,
+        Tv {
+            val: extend::sum24(o.pc, 4),
+            mark: false,
+        },
+    );
     core::next(core::plus(disp, o))
 }
 
 // SETF.
-pub fn set_condition(cond: u32, target: u32, o: Open, cells: &mut [u32; 38], tags: &mut [u8; 38]) -> Out
+pub fn set_condition(
+    cond: u32,
+    target: u32,
+    o: Open,
+    cells: &mut [u32; 38],
+    tags: &mut [u8; 38],
+) -> Out
     requires { ⌜ target < 32 ⌝ }
     ensures { λ r. ⌜ ((m : Cells) → after (wentOf r) (both (now (cells .exit)) (now (tags .exit))) m ≡ next (plus 4 o) (putReg target (condition cond (both (now (cells .entry)) (now (tags .entry)))) (both (now (cells .entry)) (now (tags .entry)))) m) ⌝ }
 {
@@ -67,7 +90,7 @@ pub fn set_condition(cond: u32, target: u32, o: Open, cells: &mut [u32; 38], tag
 
 // LDSR to PSW: its bits choose whether requests are accepted, so a marked value is refused.
 fn load_psw(v: Tv, o: Open, cells: &mut [u32; 38], tags: &mut [u8; 38]) -> Out
-    ensures { λ r. ⌜ ((m : Cells) → after (wentOf r) (both (now (cells .exit)) (now (tags .exit))) m ≡ loadPsw v o (both (now (cells .entry)) (now (tags .entry))) m) ⌝ }
+    ensures { λ r. ⌜ ((m : Cells) → after (wentOf r) (both (now (cells .exit)) (now (tags .exit))) m ≡ reveal o (both (now (cells .entry)) (now (tags .entry))) m v (λ w. next (plus 4 (modes (w / 2 ^ 7 % 2) (w / 2 ^ 6 % 2) (w / 2 ^ 5 % 2) o)) (putPswFlags (bits w 0) (both (now (cells .entry)) (now (tags .entry)))) m)) ⌝ }
 {
     if v.mark {
         return core::leak(o);
@@ -84,19 +107,35 @@ pub fn ldsr(reg2: u32, regid: u32, o: Open, cells: &mut [u32; 38], tags: &mut [u
     let v = cells::reg(&*cells, &*tags, reg2);
     match regid {
         0 => {
-            cells::put(cells, tags, EIPC, Tv { val: v.val % 16777216, mark: v.mark });
+            cells::put(
+                cells,
+                tags,
+                sys(EIPC),
+                Tv {
+                    val: v.val % 16777216,
+                    mark: v.mark,
+                },
+            );
             core::next(core::plus(4, o))
         }
         1 => {
-            psw::put_spread(EIPSW, v, cells, tags);
+            psw::put_spread(sys(EIPSW), v, cells, tags);
             core::next(core::plus(4, o))
         }
         2 => {
-            cells::put(cells, tags, FEPC, Tv { val: v.val % 16777216, mark: v.mark });
+            cells::put(
+                cells,
+                tags,
+                sys(FEPC),
+                Tv {
+                    val: v.val % 16777216,
+                    mark: v.mark,
+                },
+            );
             core::next(core::plus(4, o))
         }
         3 => {
-            psw::put_spread(FEPSW, v, cells, tags);
+            psw::put_spread(sys(FEPSW), v, cells, tags);
             core::next(core::plus(4, o))
         }
         _ => load_psw(v, o, cells, tags),
@@ -108,11 +147,14 @@ fn system_value(regid: u32, o: Open, cells: &[u32; 38], tags: &[u8; 38]) -> Tv
     ensures { λ r. ⌜ r ≡ system regid o (both (now (cells .entry)) (now (tags .entry))) ⌝ }
 {
     match regid {
-        0 => cells::get(cells, tags, EIPC),
-        1 => psw::gathered(EIPSW, cells, tags),
-        2 => cells::get(cells, tags, FEPC),
-        3 => psw::gathered(FEPSW, cells, tags),
-        4 => Tv { val: o.ecr, mark: false },
+        0 => cells::get(cells, tags, sys(EIPC)),
+        1 => psw::gathered(sys(EIPSW), cells, tags),
+        2 => cells::get(cells, tags, sys(FEPC)),
+        3 => psw::gathered(sys(FEPSW), cells, tags),
+        4 => Tv {
+            val: o.ecr,
+            mark: false,
+        },
         _ => psw::gathered_psw(o, cells, tags),
     }
 }
@@ -126,20 +168,28 @@ pub fn stsr(regid: u32, reg2: u32, o: Open, cells: &mut [u32; 38], tags: &mut [u
     core::next(core::plus(4, o))
 }
 
-// PSW and a PC to the saved registers.
-fn save(pc: u32, psw_cell: u32, pc_cell: u32, o: Open, cells: &mut [u32; 38], tags: &mut [u8; 38])
-    requires { ⌜ (psw_cell < 38) × (pc_cell < 38) ⌝ }
-    ensures { λ _. ⌜ both (now (cells .exit)) (now (tags .exit)) ≡ put «pc_cell» (plain pc) (putBits «psw_cell» (psw o (both (now (cells .entry)) (now (tags .entry)))) (both (now (cells .entry)) (now (tags .entry)))) ⌝ }
+// A PC and PSW to the saved registers pc and psw.
+fn save(value: u32, pc: u32, psw: u32, o: Open, cells: &mut [u32; 38], tags: &mut [u8; 38])
+    requires { ⌜ (pc < 6) × (psw < 6) ⌝ }
+    ensures { λ _. ⌜ both (now (cells .exit)) (now (tags .exit)) ≡ savePc pc value (savePsw psw o (both (now (cells .entry)) (now (tags .entry)))) ⌝ }
 {
-    psw::save_psw(psw_cell, o, cells, tags);
-    cells::put(cells, tags, pc_cell, Tv { val: pc, mark: false });
+    psw::save_psw(sys(psw), o, cells, tags);
+    cells::put(
+        cells,
+        tags,
+        sys(pc),
+        Tv {
+            val: value,
+            mark: false,
+        },
+    );
 }
 
 fn exception(code: u32, target: u32, o: Open, cells: &mut [u32; 38], tags: &mut [u8; 38]) -> Out
     requires { ⌜ code < 2 ^ 16 ⌝ }
     ensures { λ r. ⌜ ((m : Cells) → after (wentOf r) (both (now (cells .exit)) (now (tags .exit))) m ≡ exception code target o (both (now (cells .entry)) (now (tags .entry))) m) ⌝ }
 {
-    save(extend::sum24(o.pc, 4), EIPSW, EIPC, o, cells, tags);
+    save(extend::sum24(o.pc, 4), EIPC, EIPSW, o, cells, tags);
     core::next(core::goto(target, core::eicc(code, core::modes(o.np, 1, 1, o))))
 }
 
@@ -157,23 +207,27 @@ pub fn illegal(o: Open, cells: &mut [u32; 38], tags: &mut [u8; 38]) -> Out
     exception(0x60, 0x60, o, cells, tags)
 }
 
-// Back to a saved PC and PSW.
-fn return_to(pc_cell: u32, psw_cell: u32, o: Open, cells: &mut [u32; 38], tags: &mut [u8; 38]) -> Out
-    requires { ⌜ («pc_cell» < 38) × («psw_cell» < 38) ⌝ }
+// Back to the saved PC and PSW in the registers pc and psw.
+fn return_to(pc: u32, psw: u32, o: Open, cells: &mut [u32; 38], tags: &mut [u8; 38]) -> Out
+    requires { ⌜ (pc < 6) × (psw < 6) ⌝ }
+    ensures { λ r. ⌜ ((m : Cells) → after (wentOf r) (both (now (cells .exit)) (now (tags .exit))) m ≡ return pc psw o (both (now (cells .entry)) (now (tags .entry))) m) ⌝ }
 {
-    let a = cells::get(&*cells, &*tags, pc_cell);
+    let a = cells::get(&*cells, &*tags, sys(pc));
     if a.mark {
         return core::leak(o);
     }
-    let b = psw::mode(psw_cell, &*cells, &*tags);
+    let b = psw::mode(sys(psw), &*cells, &*tags);
     if b.mark {
         return core::leak(o);
     }
-    let k = psw_cell as usize;
+    let k = sys(psw) as usize;
     let w = cells[k];
     let m = tags[k];
     psw::put_flags(w, m, cells, tags);
-    core::next(core::goto(a.val / 2 * 2, core::modes(b.val / 4 % 2, b.val / 2 % 2, b.val % 2, o)))
+    core::next(core::goto(
+        a.val / 2 * 2,
+        core::modes(b.val / 4 % 2, b.val / 2 % 2, b.val % 2, o),
+    ))
 }
 
 pub fn reti(o: Open, cells: &mut [u32; 38], tags: &mut [u8; 38]) -> Out
@@ -191,8 +245,11 @@ pub fn reti(o: Open, cells: &mut [u32; 38], tags: &mut [u8; 38]) -> Out
 pub fn take_nmi(o: Open, cells: &mut [u32; 38], tags: &mut [u8; 38]) -> Out
     ensures { λ r. ⌜ ((m : Cells) → after (wentOf r) (both (now (cells .exit)) (now (tags .exit))) m ≡ takeNmi o (both (now (cells .entry)) (now (tags .entry))) m) ⌝ }
 {
-    save(o.pc, FEPSW, FEPC, o, cells, tags);
-    core::next(core::goto(0x10, core::fecc(0x10, core::modes(1, 0, 1, core::waits(o.code, 0, 0, o)))))
+    save(o.pc, FEPC, FEPSW, o, cells, tags);
+    core::next(core::goto(
+        0x10,
+        core::fecc(0x10, core::modes(1, 0, 1, core::waits(o.code, 0, 0, o))),
+    ))
 }
 
 // A maskable code is accepted: it is cleared, and HALT ends.
@@ -200,6 +257,9 @@ pub fn take_code(o: Open, cells: &mut [u32; 38], tags: &mut [u8; 38]) -> Out
     requires { ⌜ o .code < 2 ^ 16 ⌝ }
     ensures { λ r. ⌜ ((m : Cells) → after (wentOf r) (both (now (cells .exit)) (now (tags .exit))) m ≡ takeCode o (both (now (cells .entry)) (now (tags .entry))) m) ⌝ }
 {
-    save(o.pc, EIPSW, EIPC, o, cells, tags);
-    core::next(core::goto(o.code, core::eicc(o.code, core::modes(o.np, 0, 1, core::waits(0, o.nmi, 0, o)))))
+    save(o.pc, EIPC, EIPSW, o, cells, tags);
+    core::next(core::goto(
+        o.code,
+        core::eicc(o.code, core::modes(o.np, 0, 1, core::waits(0, o.nmi, 0, o))),
+    ))
 }

@@ -23,14 +23,48 @@ pub struct Out {
 
 // What an instruction asks for, its operands at hand: instructions of several formats share a task.
 pub enum Task {
-    Compute { op: Op, x: Tv, y: Tv, target: u32, len: u32 },
-    Load { size: Size, disp: u32, base: u32, target: u32, len: u32 },
-    Store { size: Size, disp: u32, base: u32, source: u32, len: u32 },
-    Bitwise { op: BitOp, bit: u32, disp: u32, base: u32 },
-    Jump { base: u32 },
-    Branch { cond: u32, disp: u32 },
-    Link { disp: u32, target: u32 },
-    Condition { cond: u32, target: u32 },
+    Compute {
+        op: Op,
+        x: Tv,
+        y: Tv,
+        target: u32,
+        len: u32,
+    },
+    Load {
+        size: Size,
+        disp: u32,
+        base: u32,
+        target: u32,
+        len: u32,
+    },
+    Store {
+        size: Size,
+        disp: u32,
+        base: u32,
+        source: u32,
+        len: u32,
+    },
+    Bitwise {
+        op: BitOp,
+        bit: u32,
+        disp: u32,
+        base: u32,
+    },
+    Jump {
+        base: u32,
+    },
+    Branch {
+        cond: u32,
+        disp: u32,
+    },
+    Link {
+        disp: u32,
+        target: u32,
+    },
+    Condition {
+        cond: u32,
+        target: u32,
+    },
     System(System),
 }
 
