@@ -1,1 +1,5 @@
 pub mod Tasks
+pub mod TaskLaws
+pub mod StepLaws
+pub mod FetchLaws
+pub mod RunLaws

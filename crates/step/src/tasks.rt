@@ -4,7 +4,7 @@ ghost use mathlib.Core.Bool.{true};
 ghost use mathlib.Core.List.{List};
 ghost use Prim.Native.Nat.{ℕ};
 ghost use Rattle.insn.specs.Coding.{inRange};
-ghost use Rattle.machine.specs.Marked.{Cells, both};
+ghost use Rattle.machine.specs.Marked.{plain, Cells, both};
 ghost use Rattle.machine.specs.Step.{exec};
 ghost use Rattle.step.specs.Tasks.{doTask, TaskFields};
 use crate::System;
@@ -15,7 +15,9 @@ use machine::Tv;
 use state::cells;
 use state::operations;
 
-fn plain(n: u32) -> Tv {
+fn plain(n: u32) -> Tv
+    ensures { λ r. ⌜ r ≡ plain n ⌝ }
+{
     Tv {
         val: n,
         mark: false,
