@@ -1,3 +1,4 @@
+pub mod StepLaws
 pub mod Tasks
 pub mod TaskLaws
 pub mod StepLaws
