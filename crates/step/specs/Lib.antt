@@ -1,6 +1,6 @@
-pub mod StepLaws
 pub mod Tasks
-pub mod TaskLaws
 pub mod StepLaws
+pub mod TaskLaws
 pub mod FetchLaws
+pub mod RequestLaws
 pub mod RunLaws
