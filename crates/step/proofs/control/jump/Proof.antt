@@ -1,0 +1,39 @@
+-- A marked base is refused; an open one, cut to 24 bits and made even, is the next PC.
+use mathlib.Core.Path.{refl}
+use borrow.Author.Needs.{needs}
+use Rattle.machine.specs.Step.{jmp}
+use Rattle.step.specs.StepLaws.{opened, leaked, on}
+use Rattle.step.proofs.control.jump.Statement.{statement}
+use Rattle.step.proofs.control.jump.Tie as tie
+
+reg-requires : tie.Need-reg-requires
+reg-requires c κs = search needs
+
+leak-requires : tie.Need-leak-requires
+leak-requires c κs = search needs
+
+returns : tie.Need-returns
+unfolding jmp
+returns c = λ m. leaked _ _ _ _ (c .before .before .reg .ensures) (c .before .if1 .taken) (c .leak .ensures)
+
+mul-goto : tie.Need-mul-goto
+mul-goto c = search needs
+
+goto-requires : tie.Need-goto-requires
+goto-requires c κs = search needs
+
+next-requires : tie.Need-next-requires
+next-requires c κs = search needs
+
+returns-2 : tie.Need-returns-2
+unfolding jmp
+returns-2 c =
+    let s = c .before .before .before in
+    λ m.
+    opened _ _ _ _ (s .before .reg .ensures) (s .if1 .left)
+    (on (c .next .ensures) (c .before .goto .ensures) refl refl)
+
+pub jump-spec : {M : Type 1} → statement M
+jump-spec =
+    tie.close
+    (tie.spec reg-requires leak-requires returns mul-goto goto-requires next-requires returns-2)

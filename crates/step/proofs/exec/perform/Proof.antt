@@ -1,0 +1,162 @@
+use mathlib.Core.Path.{refl, subst}
+use borrow.Author.Needs.{needs}
+use Rattle.step.specs.Tasks.{doTask, TaskFields}
+use Rattle.step.specs.StepLaws.{on}
+use Rattle.step.proofs.exec.perform.Statement.{statement}
+use Rattle.step.proofs.exec.perform.Tie as tie
+use Rattle.step.proofs.exec.perform.Reads as reads
+use Rattle.step.proofs.exec.perform.Lts as lts
+
+enum-known-t : tie.Need-enum-known-t
+enum-known-t c = search needs
+
+operate-requires : tie.Need-operate-requires
+operate-requires c κs = subst TaskFields (c .before .before .before .t .given .1) (c .before .before .before .before .before .before .before .pre .1)
+
+plus-requires : tie.Need-plus-requires
+plus-requires c κs = search needs
+
+next-requires : tie.Need-next-requires
+next-requires c κs = search needs
+
+enum-known-t-2 : tie.Need-enum-known-t-2
+enum-known-t-2 c = search needs
+
+load-requires : tie.Need-load-requires
+load-requires c κs = let f = subst TaskFields (c .before .before .before .before .before .t2 .given .1) (c .before .before .before .before .before .before .before .before .before .pre .1) in (c .before .before .before .before .before .before .before .before .before .pre .0, f .0, f .1)
+
+enum-known-t-3 : tie.Need-enum-known-t-3
+enum-known-t-3 c = search needs
+
+store-requires : tie.Need-store-requires
+store-requires c κs = let f = subst TaskFields (c .before .before .before .before .before .t3 .given .1) (c .before .before .before .before .before .before .before .before .before .pre .1) in (c .before .before .before .before .before .before .before .before .before .pre .0, f .0, f .1)
+
+enum-known-t-4 : tie.Need-enum-known-t-4
+enum-known-t-4 c = search needs
+
+bitwise-requires : tie.Need-bitwise-requires
+bitwise-requires c κs = let f = subst TaskFields (c .before .before .before .before .before .t4 .given .1) (c .before .before .before .before .before .before .before .before .before .pre .1) in (c .before .before .before .before .before .before .before .before .before .pre .0, f .0, f .1)
+
+enum-known-t-5 : tie.Need-enum-known-t-5
+enum-known-t-5 c = search needs
+
+jump-requires : tie.Need-jump-requires
+jump-requires c κs = subst TaskFields (c .before .before .before .t5 .given .1) (c .before .before .before .before .before .before .before .pre .1)
+
+enum-known-t-6 : tie.Need-enum-known-t-6
+enum-known-t-6 c = search needs
+
+branch-requires : tie.Need-branch-requires
+branch-requires c κs = search needs
+
+enum-known-t-7 : tie.Need-enum-known-t-7
+enum-known-t-7 c = search needs
+
+link-requires : tie.Need-link-requires
+link-requires c κs = subst TaskFields (c .before .before .before .t7 .given .1) (c .before .before .before .before .before .before .before .pre .1)
+
+enum-known-t-8 : tie.Need-enum-known-t-8
+enum-known-t-8 c = search needs
+
+set-condition-requires : tie.Need-set-condition-requires
+set-condition-requires c κs = subst TaskFields (c .before .before .before .t8 .given .1) (c .before .before .before .before .before .before .before .pre .1)
+
+enum-known-t-9 : tie.Need-enum-known-t-9
+enum-known-t-9 c = search needs
+
+system-requires : tie.Need-system-requires
+system-requires c κs = subst TaskFields (c .before .before .before .t9 .given .1) (c .before .before .before .before .before .before .before .pre .1)
+
+returns : tie.Need-returns
+unfolding doTask
+returns c = rw (c .before .before .before .before .before .before .t .given .1) (on (c .next .ensures) (c .before .plus .ensures) (c .before .before .operate .ensures) refl)
+
+same-length : tie.Need-same-length
+same-length c = search needs
+
+same-length-2 : tie.Need-same-length-2
+same-length-2 c = search needs
+
+returns-2 : tie.Need-returns-2
+unfolding doTask
+returns-2 c = rw (c .before .before .before .before .before .before .t2 .given .1) (c .load .ensures)
+
+same-length-3 : tie.Need-same-length-3
+same-length-3 c = search needs
+
+same-length-4 : tie.Need-same-length-4
+same-length-4 c = search needs
+
+returns-3 : tie.Need-returns-3
+unfolding doTask
+returns-3 c = rw (c .before .before .before .before .before .before .before .before .before .before .t3 .given .1) (c .before .before .before .before .store .ensures)
+
+same-length-5 : tie.Need-same-length-5
+same-length-5 c = search needs
+
+same-length-6 : tie.Need-same-length-6
+same-length-6 c = search needs
+
+returns-4 : tie.Need-returns-4
+unfolding doTask
+returns-4 c = rw (c .before .before .before .before .before .before .before .before .t4 .given .1) (c .before .before .bitwise .ensures)
+
+returns-5 : tie.Need-returns-5
+unfolding doTask
+returns-5 c = rw (c .before .before .before .before .t5 .given .1) (c .jump .ensures _)
+
+returns-6 : tie.Need-returns-6
+unfolding doTask
+returns-6 c = rw (c .before .before .before .before .t6 .given .1) (c .branch .ensures _)
+
+returns-7 : tie.Need-returns-7
+unfolding doTask
+returns-7 c = rw (c .before .before .before .before .t7 .given .1) (c .link .ensures _)
+
+returns-8 : tie.Need-returns-8
+unfolding doTask
+returns-8 c = rw (c .before .before .before .before .t8 .given .1) (c .set-condition .ensures _)
+
+returns-9 : tie.Need-returns-9
+unfolding doTask
+returns-9 c = rw (c .before .before .before .before .t9 .given .1) (c .system .ensures _)
+
+pub perform-spec : {M : Type 1} → statement M
+perform-spec =
+    tie.close
+    (tie.spec
+    enum-known-t
+    operate-requires
+    plus-requires
+    next-requires
+    enum-known-t-2
+    load-requires
+    enum-known-t-3
+    store-requires
+    enum-known-t-4
+    bitwise-requires
+    enum-known-t-5
+    jump-requires
+    enum-known-t-6
+    branch-requires
+    enum-known-t-7
+    link-requires
+    enum-known-t-8
+    set-condition-requires
+    enum-known-t-9
+    system-requires
+    returns
+    same-length
+    same-length-2
+    returns-2
+    same-length-3
+    same-length-4
+    returns-3
+    same-length-5
+    same-length-6
+    returns-4
+    returns-5
+    returns-6
+    returns-7
+    returns-8
+    returns-9)

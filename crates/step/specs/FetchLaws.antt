@@ -1,0 +1,67 @@
+-- A halfword fetched, the code's values beside the definition's: an even address is as it is with its low bit cleared.
+use mathlib.Core.Path.{_≡_, refl, sym, ap, _∙_}
+use mathlib.Core.Bool.{true, false}
+use mathlib.Core.List.{List}
+use Prim.Native.Nat.{ℕ, _+_, _*_, _/_, _%_, _^_, _≤_, _<_}
+use native.Mathlib.Omega.{arith}
+use lib.ListN.{getD, length}
+use Rattle.word.specs.Extend.{sum24}
+use Rattle.insn.specs.declared.Size.the-variants.{Half}
+use Rattle.insn.specs.Coding.{long, decode}
+use Rattle.machine.specs.declared.Tv.{Tv}
+use Rattle.machine.specs.declared.Open.{Open}
+use Rattle.machine.specs.declared.Spot.{Spot}
+use Rattle.machine.specs.declared.Spot.the-variants.{At, Nowhere}
+use Rattle.machine.specs.declared.Answer.the-variants.{NoFetch, Leak}
+use Rattle.machine.specs.Marked.{liftAll, Cells, both}
+use Rattle.machine.specs.Regions.{FETCH, find}
+use Rattle.machine.specs.Memory.{bytesAt, littleEndian}
+use Rattle.machine.specs.WellFormed.{Bytes}
+use Rattle.machine.specs.InvariantLaws.{half-lt}
+use Rattle.machine.specs.Step.{Outcome, refuse, execute, fetch, instruction}
+use Rattle.step.specs.Tasks.{Ready}
+use Rattle.step.specs.StepLaws.{opened, leaked, placed, nowhere, fits}
+
+cleared : (a b : ℕ) → a % 2 ≡ 0 → b ≡ a → a ≡ b / 2 * 2
+cleared a b h e = omega arith
+
+pub next-even : (a : ℕ) → a % 2 ≡ 0 → sum24 a 2 % 2 ≡ 0
+next-even a h = omega arith
+
+-- a halfword of bytes has 16 bits
+pub half-small : (m k : List ℕ) (p : ℕ) {h : Tv} → ((i : ℕ) → getD m i 0 < 2 ^ 8)
+    → h ≡ liftAll littleEndian (bytesAt (both m k) p Half) → h .val < 2 ^ 16
+half-small m k p b e = rw e (half-lt {m = both m k} (record { small = b }) p)
+
+module _ (map : List ℕ) (a : ℕ) (even : a % 2 ≡ 0) {s : Spot} (e : s ≡ find map FETCH a) where
+  -- what is found lies in memory
+  pub half-fits : {mem marks : List ℕ} → Ready map mem marks → {p : ℕ} → s ≡ At p → (p + 2 ≤ length mem) × (length mem ≡ length marks)
+  half-fits r h = fits r Half FETCH a (cleared a a even refl) e h
+
+  module _ (o : Open) (c m : Cells) {b : ℕ} (same : b ≡ a) (k : ℕ → Outcome) where
+    pub fetch-nowhere : s ≡ Nowhere → refuse NoFetch a c m ≡ fetch b map o c m k
+    unfolding fetch
+    fetch-nowhere h = nowhere map FETCH NoFetch c m _ (cleared a b even same) e h
+
+    module _ {p : ℕ} (at-p : s ≡ At p) {h : Tv} (read : h ≡ liftAll littleEndian (bytesAt m p Half)) where
+      pub fetch-secret : h .mark ≡ true → refuse Leak (o .pc) c m ≡ fetch b map o c m k
+      unfolding fetch
+      fetch-secret t = placed map FETCH NoFetch c m _ (cleared a b even same) e at-p (leaked o c m k read t refl)
+
+      pub fetch-found : {x : Outcome} → h .mark ≡ false → x ≡ k (h .val) → x ≡ fetch b map o c m k
+      unfolding fetch
+      fetch-found t q = placed map FETCH NoFetch c m _ (cleared a b even same) e at-p (opened o c m k read t q)
+
+  -- the instruction at PC a: its first halfword h is at place p, and asks for a second one at b, or not
+  module _ (o : Open) (c m : Cells) (at-a : o .pc ≡ a) {p : ℕ} (at-p : s ≡ At p) {h : Tv} (read : h ≡ liftAll littleEndian (bytesAt m p Half))
+      (open-half : h .mark ≡ false) where
+    pub instruction-long : {b : ℕ} {x : Outcome} → long (h .val) ≡ true → b ≡ sum24 a 2
+        → x ≡ fetch b map o c m (λ w. execute (decode (h .val) w) map o c m) → x ≡ instruction map o c m
+    unfolding instruction
+    instruction-long t r q =
+        fetch-found o c m at-a _ at-p read open-half
+        (rw t (q ∙ ap (λ (y : ℕ). fetch y map o c m (λ w. execute (decode (h .val) w) map o c m)) (r ∙ ap (λ (y : ℕ). sum24 y 2) (sym at-a))))
+
+    pub instruction-short : {x : Outcome} → long (h .val) ≡ false → x ≡ execute (decode (h .val) 0) map o c m → x ≡ instruction map o c m
+    unfolding instruction
+    instruction-short t q = fetch-found o c m at-a _ at-p read open-half (rw t q)

@@ -1,0 +1,6 @@
+pub mod Tasks
+pub mod StepLaws
+pub mod TaskLaws
+pub mod FetchLaws
+pub mod RequestLaws
+pub mod RunLaws

@@ -1,0 +1,60 @@
+-- A run from its steps: the state after each is ready and well-formed, and what is left of the run goes on from there.
+use mathlib.Core.Path.{_≡_, refl, sym, ap, _∙_, subst}
+use mathlib.Core.Bool.{true, false}
+use mathlib.Core.List.{List}
+use Prim.Native.Nat.{ℕ, zero, suc, _+_, _-_, _≤_, _<_}
+use native.Mathlib.Omega.{arith}
+use native.Mathlib.Numerals.{add-one}
+use lib.ListN.{length}
+use Rattle.machine.specs.declared.Open.{Open}
+use Rattle.machine.specs.declared.Answer.{Answer}
+use Rattle.machine.specs.declared.Answer.the-variants.{Done}
+use Rattle.machine.specs.declared.Went.{Went}
+use Rattle.machine.specs.declared.Went.the-variants.{Next, Stop}
+use Rattle.machine.specs.Marked.{Cells, both}
+use Rattle.machine.specs.Step.{Outcome, after, next, refuse, step}
+use Rattle.machine.specs.Run.{Ended, ended, carry, run}
+use Rattle.machine.specs.WellFormed.{WellFormed, Bytes}
+use Rattle.machine.specs.Invariants.{step-well-formed, step-lengths}
+use Rattle.step.specs.declared.Out.{Out}
+use Rattle.step.specs.Tasks.{goesOn, wentOf, Ready}
+
+left : (b n : ℕ) → n < b → b - n ≡ suc (b - (n + 1))
+left b n h = omega arith
+
+module _ (b n : ℕ) (map : List ℕ) (o : Open) (c m : Cells) where
+  run-next : {p : Open} {d q : Cells} → n < b → next p d q ≡ step map o c m
+      → run (b - (n + 1)) (n + 1) map p d q ≡ run (b - n) n map o c m
+  unfolding run
+  run-next h e = rw (left b n h, ← e, add-one n) (unfold carry in refl)
+
+  run-refused : {a : Answer} {p : ℕ} {d q : Cells} → n < b → refuse a p d q ≡ step map o c m
+      → ended a p n o d q ≡ run (b - n) n map o c m
+  unfolding run
+  run-refused h e = rw (left b n h, ← e) (unfold carry in refl)
+
+  -- no budget is left
+  pub run-end : b ≤ n → ended Done 0 n o c m ≡ run (b - n) n map o c m
+  unfolding run
+  run-end h = let e : b - n ≡ 0 = omega arith in rw e
+
+  -- the step w went on, or was refused
+  pub run-on : (w : Out) {d q : Cells} → n < b → goesOn (w .answer) ≡ true → after (wentOf w) d q ≡ step map o c m
+      → run (b - (n + 1)) (n + 1) map (w .core) d q ≡ run (b - n) n map o c m
+  run-on w h t e = run-next h (rw t at e)
+
+  pub run-stop : (w : Out) {d q : Cells} → n < b → goesOn (w .answer) ≡ false → after (wentOf w) d q ≡ step map o c m
+      → ended (w .answer) (w .place) n o d q ≡ run (b - n) n map o c m
+  run-stop w h t e = run-refused h (rw t at e)
+
+module _ (map : List ℕ) (o : Open) (c m : Cells) (w : Out) {d q : Cells} (e : after (wentOf w) d q ≡ step map o c m) where
+  pub on-well-formed : goesOn (w .answer) ≡ true → WellFormed o c → Bytes m → WellFormed (w .core) d × Bytes q
+  on-well-formed t f b =
+      let e1 : next (w .core) d q ≡ step map o c m = rw t at e in
+      let g = step-well-formed map o c m f b (w .core) (ap (λ (x : Outcome). x .went) (sym e1)) in
+      (subst (λ (x : Cells). WellFormed (w .core) x) (ap (λ (x : Outcome). x .cells) (sym e1)) (g .0),
+      subst Bytes (ap (λ (x : Outcome). x .mem) (sym e1)) (g .1))
+
+-- memory and marks as long as they were are ready too
+pub still-ready : {map m k m₀ k₀ : List ℕ} → Ready map m₀ k₀ → length m ≡ length m₀ → length k ≡ length k₀ → Ready map m k
+still-ready r h j = record { good = rw h (r .good); same = h ∙ r .same ∙ sym j }

@@ -1,0 +1,99 @@
+-- The code's way through a step: what the types that only the code uses stand for.
+use mathlib.Core.Path.{_≡_}
+use mathlib.Core.Bool.{Bool, true, false, cond}
+use mathlib.Core.List.{List}
+use Prim.Native.Nat.{ℕ, _<_}
+use lib.ListN.{length}
+use Rattle.insn.specs.declared.Decoded.{Decoded}
+use Rattle.insn.specs.declared.Decoded.the-variants as decoded
+use Rattle.insn.specs.Coding.{inRange, decode}
+use Rattle.machine.specs.declared.Open.{Open}
+use Rattle.machine.specs.declared.Answer.{Answer}
+use Rattle.machine.specs.declared.Answer.the-variants.{Done, Size, Map, State, Asleep, NoFetch, Undefined, Leak, NoRead, NoWrite}
+use Rattle.machine.specs.declared.Went.{Went}
+use Rattle.machine.specs.declared.Went.the-variants.{Next, Stop}
+use Rattle.step.specs.declared.Out.{Out}
+use Rattle.step.specs.declared.Fetched.{Fetched}
+use Rattle.step.specs.declared.Fetched.the-variants.{Halves, Nowhere, Secret}
+use Rattle.step.specs.declared.System.{System}
+use Rattle.step.specs.declared.System.the-variants.{Ldsr, Stsr, Trap, Halt, Reti, Di, Ei}
+use Rattle.step.specs.declared.Task.{Task}
+use Rattle.step.specs.declared.Task.the-variants.{Compute, Load, Store, Bitwise, Jump, Branch, Link, Condition, System as OfSystem}
+use Rattle.machine.specs.Marked.{Cells}
+use Rattle.machine.specs.Psw.{putReg, condition}
+use Rattle.machine.specs.Regions.{goodMap}
+use Rattle.machine.specs.Operations.{operate}
+use Rattle.machine.specs.Step.{Outcome, execute, refuse, next, plus, modes, waits, load, store, bitwise, jmp, bcond, jarl, ldsr, system, trap, reti}
+
+abbrev pub goesOn : Answer → Bool
+goesOn Done = true
+goesOn Size = false
+goesOn Map = false
+goesOn State = false
+goesOn Asleep = false
+goesOn NoFetch = false
+goesOn Undefined = false
+goesOn Leak = false
+goesOn NoRead = false
+goesOn NoWrite = false
+
+abbrev pub wentOf : Out → Went
+wentOf w = cond (goesOn (w .answer)) (Next (w .core)) (Stop (w .answer) (w .place))
+
+unfoldable pub doSystem : System → Open → Cells → Cells → Outcome
+doSystem (Ldsr reg2 regid) o c m = ldsr reg2 regid o c m
+doSystem (Stsr regid reg2) o c m = next (plus 4 o) (putReg reg2 (system regid o c) c) m
+doSystem (Trap vector) o c m = trap vector o c m
+doSystem Halt o c m = next (plus 4 (waits (o .code) (o .nmi) 1 o)) c m
+doSystem Reti o c m = reti o c m
+doSystem Di o c m = next (plus 4 (modes (o .np) (o .ep) 1 o)) c m
+doSystem Ei o c m = next (plus 4 (modes (o .np) (o .ep) 0 o)) c m
+
+unfoldable pub doTask : Task → List ℕ → Open → Cells → Cells → Outcome
+doTask (Compute op x y target len) map o c m = next (plus len o) (operate op x y target c) m
+doTask (Load s disp base target len) map o c m = load s disp base target len map o c m
+doTask (Store s disp base source len) map o c m = store s disp base source len map o c m
+doTask (Bitwise op n disp base) map o c m = bitwise op n disp base map o c m
+doTask (Jump base) map o c m = jmp base o c m
+doTask (Branch cc disp) map o c m = bcond cc disp o c m
+doTask (Link disp target) map o c m = jarl disp target o c m
+doTask (Condition cc target) map o c m = next (plus 4 o) (putReg target (condition cc c) c) m
+doTask (OfSystem s) map o c m = doSystem s o c m
+
+-- the operands that a task of an instruction in range has
+abbrev pub SystemFields : System → Type 0
+SystemFields (Ldsr reg2 regid) = reg2 < 32
+SystemFields (Stsr regid reg2) = reg2 < 32
+SystemFields (Trap vector) = vector < 32
+SystemFields Halt = Unit
+SystemFields Reti = Unit
+SystemFields Di = Unit
+SystemFields Ei = Unit
+
+abbrev pub TaskFields : Task → Type 0
+TaskFields (Compute op x y target len) = target < 32
+TaskFields (Load s disp base target len) = (base < 32) × (target < 32)
+TaskFields (Store s disp base source len) = (base < 32) × (source < 32)
+TaskFields (Bitwise op n disp base) = (n < 8) × (base < 32)
+TaskFields (Jump base) = base < 32
+TaskFields (Branch cc disp) = Unit
+TaskFields (Link disp target) = target < 32
+TaskFields (Condition cc target) = target < 32
+TaskFields (OfSystem s) = SystemFields s
+
+-- a map and memory as the entry's checks let them in
+pub record Ready (map mem marks : List ℕ) : Type 0 where
+  pub good : goodMap map (length mem) ≡ true
+  pub same : length mem ≡ length marks
+
+-- what a fetch found, carried on: a second halfword of a short form is 0, and is not looked at
+abbrev pub fetched : Fetched → List ℕ → Open → Cells → Cells → Outcome
+fetched (Halves h w) map o c m = execute (decode h w) map o c m
+fetched (Nowhere a) map o c m = refuse NoFetch a c m
+fetched Secret map o c m = refuse Leak (o .pc) c m
+
+-- a decoded instruction is in range
+abbrev pub DecodedFields : Decoded → Type 0
+DecodedFields (decoded.Valid i) = inRange i ≡ true
+DecodedFields decoded.Illegal = Unit
+DecodedFields decoded.Undefined = Unit

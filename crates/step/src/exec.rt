@@ -1,0 +1,246 @@
+// One step: requests, fetch, decode, and the instruction's task.
+ghost use mathlib.Core.Path.{_≡_};
+ghost use Prim.Native.Nat.{_%_};
+ghost use Rattle.machine.specs.Marked.{Cells, both};
+ghost use Rattle.insn.specs.Coding.{decode};
+ghost use Rattle.machine.specs.Step.{after, execute, fetch, instruction, takeNmi, takeCode, step};
+ghost use Rattle.machine.specs.WellFormed.{WellFormed};
+ghost use Rattle.step.specs.Tasks.{wentOf, doSystem, doTask, SystemFields, TaskFields, DecodedFields, fetched, Ready};
+use crate::Fetched;
+use crate::Out;
+use crate::System;
+use crate::Task;
+use crate::control;
+use crate::core;
+use crate::tasks;
+use crate::transfer;
+use insn::Decoded;
+use insn::decode;
+use machine::Answer;
+use machine::Open;
+use machine::Spot;
+use state::memory;
+use state::operations;
+use state::regions;
+use word::extend;
+
+fn system(s: System, o: Open, cells: &mut [u32; 38], tags: &mut [u8; 38]) -> Out
+    requires { ⌜ SystemFields s ⌝ }
+    ensures { λ r. ⌜ ((m : Cells) → after (wentOf r) (both (now (cells .exit)) (now (tags .exit))) m ≡ doSystem s o (both (now (cells .entry)) (now (tags .entry))) m) ⌝ }
+{
+    match s {
+        System::Ldsr { reg2, regid } => control::ldsr(reg2, regid, o, cells, tags),
+        System::Stsr { regid, reg2 } => control::stsr(regid, reg2, o, cells, tags),
+        System::Trap { vector } => control::trap(vector, o, cells, tags),
+        System::Halt => core::next(core::plus(4, core::waits(o.code, o.nmi, 1, o))),
+        System::Reti => control::reti(o, cells, tags),
+        System::Di => core::next(core::plus(4, core::modes(o.np, o.ep, 1, o))),
+        System::Ei => core::next(core::plus(4, core::modes(o.np, o.ep, 0, o))),
+    }
+}
+
+fn perform(
+    t: Task,
+    map: &[u32; 16],
+    o: Open,
+    cells: &mut [u32; 38],
+    tags: &mut [u8; 38],
+    mem: &mut [u8],
+    marks: &mut [u8],
+) -> Out
+    requires { ⌜ Ready (now map) (now mem) (now marks) × TaskFields t ⌝ }
+    ensures { λ r. ⌜ after (wentOf r) (both (now (cells .exit)) (now (tags .exit))) (both (now (mem .exit)) (now (marks .exit))) ≡ doTask t (now (map .entry)) o (both (now (cells .entry)) (now (tags .entry))) (both (now (mem .entry)) (now (marks .entry))) ⌝ }
+{
+    match t {
+        Task::Compute {
+            op,
+            x,
+            y,
+            target,
+            len,
+        } => {
+            operations::operate(op, x, y, target, cells, tags);
+            core::next(core::plus(len, o))
+        }
+        Task::Load {
+            size,
+            disp,
+            base,
+            target,
+            len,
+        } => transfer::load(
+            size,
+            disp,
+            base,
+            target,
+            len,
+            map,
+            o,
+            cells,
+            tags,
+            &*mem,
+            &*marks,
+        ),
+        Task::Store {
+            size,
+            disp,
+            base,
+            source,
+            len,
+        } => transfer::store(
+            size,
+            disp,
+            base,
+            source,
+            len,
+            map,
+            o,
+            &*cells,
+            &*tags,
+            mem,
+            marks,
+        ),
+        Task::Bitwise {
+            op,
+            bit,
+            disp,
+            base,
+        } => transfer::bitwise(op, bit, disp, base, map, o, cells, tags, mem, &*marks),
+        Task::Jump { base } => control::jump(base, o, &*cells, &*tags),
+        Task::Branch { cond, disp } => control::branch(cond, disp, o, &*cells, &*tags),
+        Task::Link { disp, target } => control::link(disp, target, o, cells, tags),
+        Task::Condition { cond, target } => control::set_condition(cond, target, o, cells, tags),
+        Task::System(s) => system(s, o, cells, tags),
+    }
+}
+
+// What decoding gave, carried out.
+fn execute(
+    d: Decoded,
+    map: &[u32; 16],
+    o: Open,
+    cells: &mut [u32; 38],
+    tags: &mut [u8; 38],
+    mem: &mut [u8],
+    marks: &mut [u8],
+) -> Out
+    requires { ⌜ Ready (now map) (now mem) (now marks) × DecodedFields d ⌝ }
+    ensures { λ r. ⌜ after (wentOf r) (both (now (cells .exit)) (now (tags .exit))) (both (now (mem .exit)) (now (marks .exit))) ≡ execute d (now (map .entry)) o (both (now (cells .entry)) (now (tags .entry))) (both (now (mem .entry)) (now (marks .entry))) ⌝ }
+{
+    match d {
+        Decoded::Valid(i) => {
+            let t = tasks::task_of(i, &*cells, &*tags);
+            perform(t, map, o, cells, tags, mem, marks)
+        }
+        Decoded::Illegal => control::illegal(o, cells, tags),
+        Decoded::Undefined => Out {
+            answer: Answer::Undefined,
+            place: o.pc,
+            core: o,
+        },
+    }
+}
+
+// A second halfword is fetched only if the first asks for it.
+fn fetch(map: &[u32; 16], pc: u32, mem: &[u8], marks: &[u8]) -> Fetched
+    requires { ⌜ Ready (now map) (now mem) (now marks) × (pc % 2 ≡ 0) ⌝ }
+    ensures { λ r. ⌜ ((o : Open) (c : Cells) → o .pc ≡ pc → fetched r (now (map .entry)) o c (both (now (mem .entry)) (now (marks .entry))) ≡ instruction (now (map .entry)) o c (both (now (mem .entry)) (now (marks .entry)))) ⌝ }
+{
+    match regions::find(map, regions::FETCH, pc) {
+        Spot::At(p) => {
+            let h = memory::fetch(mem, marks, p);
+            if h.mark {
+                return Fetched::Secret;
+            }
+            let first = h.val as u16;
+            if decode::is_long(first) {
+                return fetch_second(map, first, extend::sum24(pc, 2), mem, marks);
+            }
+            Fetched::Halves(first, 0)
+        }
+        Spot::Nowhere => Fetched::Nowhere(pc),
+    }
+}
+
+fn fetch_second(map: &[u32; 16], first: u16, at: u32, mem: &[u8], marks: &[u8]) -> Fetched
+    requires { ⌜ Ready (now map) (now mem) (now marks) × (at % 2 ≡ 0) ⌝ }
+    ensures { λ r. ⌜ ((o : Open) (c : Cells) → fetched r (now (map .entry)) o c (both (now (mem .entry)) (now (marks .entry))) ≡ fetch at (now (map .entry)) o c (both (now (mem .entry)) (now (marks .entry))) (λ w. execute (decode first w) (now (map .entry)) o c (both (now (mem .entry)) (now (marks .entry))))) ⌝ }
+{
+    match regions::find(map, regions::FETCH, at) {
+        Spot::At(p) => {
+            let h = memory::fetch(mem, marks, p);
+            if h.mark {
+                return Fetched::Secret;
+            }
+            Fetched::Halves(first, h.val as u16)
+        }
+        Spot::Nowhere => Fetched::Nowhere(at),
+    }
+}
+
+// The instruction at PC.
+fn instruction(
+    map: &[u32; 16],
+    o: Open,
+    cells: &mut [u32; 38],
+    tags: &mut [u8; 38],
+    mem: &mut [u8],
+    marks: &mut [u8],
+) -> Out
+    requires { ⌜ Ready (now map) (now mem) (now marks) × (o .pc % 2 ≡ 0) ⌝ }
+    ensures { λ r. ⌜ after (wentOf r) (both (now (cells .exit)) (now (tags .exit))) (both (now (mem .exit)) (now (marks .exit))) ≡ instruction (now (map .entry)) o (both (now (cells .entry)) (now (tags .entry))) (both (now (mem .entry)) (now (marks .entry))) ⌝ }
+{
+    match fetch(map, o.pc, &*mem, &*marks) {
+        Fetched::Halves(first, second) => execute(
+            decode::decode(first, second),
+            map,
+            o,
+            cells,
+            tags,
+            mem,
+            marks,
+        ),
+        Fetched::Nowhere(a) => Out {
+            answer: Answer::NoFetch,
+            place: a,
+            core: o,
+        },
+        Fetched::Secret => core::leak(o),
+    }
+}
+
+// One step: an NMI, a maskable code, HALT, and else the instruction. Mostly nothing waits, and one test says so.
+pub fn step(
+    map: &[u32; 16],
+    o: Open,
+    cells: &mut [u32; 38],
+    tags: &mut [u8; 38],
+    mem: &mut [u8],
+    marks: &mut [u8],
+) -> Out
+    requires { ⌜ Ready (now map) (now mem) (now marks) × WellFormed o (both (now cells) (now tags)) ⌝ }
+    ensures { λ r. ⌜ after (wentOf r) (both (now (cells .exit)) (now (tags .exit))) (both (now (mem .exit)) (now (marks .exit))) ≡ step (now (map .entry)) o (both (now (cells .entry)) (now (tags .entry))) (both (now (mem .entry)) (now (marks .entry))) ⌝ }
+{
+    if (o.nmi | o.code | o.halted) != 0 {
+        if o.nmi == 1 {
+            if o.np == 0 {
+                return control::take_nmi(o, cells, tags);
+            }
+        }
+        if o.code != 0 {
+            if o.np == 0 {
+                if o.id == 0 {
+                    return control::take_code(o, cells, tags);
+                }
+            }
+        }
+        if o.halted == 1 {
+            return Out {
+                answer: Answer::Asleep,
+                place: 0,
+                core: o,
+            };
+        }
+    }
+    instruction(map, o, cells, tags, mem, marks)
+}
