@@ -32,7 +32,8 @@ tested-requires : tie.Need-tested-requires
 tested-requires c κs =
     let p = c .before .before in
     let s = p .before .before .before .before .before .before .before .before .before .before in
-    let f = fits (s .pre .0) Byte 1 (sum24 (p .before .before .before .before .before .reg .result .val) (s .args .disp)) (p .before .before .before .address .ensures) (p .before .before .find .ensures) (p .p .given .1) in
+    let f = fits (s .pre .0) Byte 1 (sum24 (p .before .before .before .before .before .reg .result .val) (s .args .disp))
+    (p .before .before .before .address .ensures) (p .before .before .find .ensures) (p .p .given .1) in
     (s .pre .1, omega arith, f .1)
 
 only-tests-requires : tie.Need-only-tests-requires
@@ -73,7 +74,8 @@ change-requires : tie.Need-change-requires
 change-requires c κs =
     let p = c .before .before .before .before .before .before .before .before .before .before .before .before in
     let s = p .before .before .before .before .before .before .before .before .before .before in
-    let f = fits (s .pre .0) Byte 1 (sum24 (p .before .before .before .before .before .reg .result .val) (s .args .disp)) (p .before .before .before .address .ensures) (p .before .before .find .ensures) (p .p .given .1) in
+    let f = fits (s .pre .0) Byte 1 (sum24 (p .before .before .before .before .before .reg .result .val) (s .args .disp))
+    (p .before .before .before .address .ensures) (p .before .before .find .ensures) (p .p .given .1) in
     (s .pre .1, omega arith)
 
 plus-requires-2 : tie.Need-plus-requires-2
