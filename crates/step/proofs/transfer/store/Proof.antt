@@ -57,7 +57,8 @@ returns-2 c =
     let p = c .before .before .before .before .before .before .before .before .before .before .before in
     opened _ _ _ _ (p .before .before .before .before .before .reg .ensures) (p .before .before .before .before .if1 .left)
     (placed _ _ _ _ _ _ (p .before .before .before .address .ensures) (p .before .before .find .ensures) (p .p .given .1)
-    (on (c .next .ensures) (c .before .plus .ensures) refl (c .before .before .before .before .before .before .store .ensures ∙ rw (c .before .before .before .before .before .before .before .before .before .reg2 .ensures))))
+    (on (c .next .ensures) (c .before .plus .ensures) refl
+    (c .before .before .before .before .before .before .store .ensures ∙ rw (c .before .before .before .before .before .before .before .before .before .reg2 .ensures))))
 
 returns-3 : tie.Need-returns-3
 unfolding store
