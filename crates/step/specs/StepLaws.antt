@@ -2,7 +2,9 @@
 use mathlib.Core.Path.{_≡_}
 use mathlib.Core.Bool.{true, false}
 use mathlib.Core.List.{List}
-use Prim.Native.Nat.{ℕ}
+use Prim.Native.Nat.{ℕ, _+_, _≤_}
+use lib.ListN.{length}
+use Rattle.insn.specs.declared.Size.{Size}
 use Rattle.machine.specs.declared.Tv.{Tv}
 use Rattle.machine.specs.declared.Open.{Open}
 use Rattle.machine.specs.declared.Answer.{Answer}
@@ -13,7 +15,10 @@ use Rattle.machine.specs.declared.Spot.{Spot}
 use Rattle.machine.specs.declared.Spot.the-variants.{At, Nowhere}
 use Rattle.machine.specs.Marked.{Cells}
 use Rattle.machine.specs.Regions.{find}
+use Rattle.machine.specs.Memory.{width, aligned}
+use Rattle.machine.specs.RegionLaws.{found-fits}
 use Rattle.machine.specs.Step.{Outcome, after, next, refuse, reveal, place}
+use Rattle.step.specs.Tasks.{Ready}
 
 module _ (o : Open) (c m : Cells) {v b : Tv} (k : ℕ → Outcome) (e : b ≡ v) where
   pub opened : {x : Outcome} → b .mark ≡ false → x ≡ k (b .val) → x ≡ reveal o c m v k
@@ -35,3 +40,8 @@ module _ (map : List ℕ) (right : ℕ) (answer : Answer) (c m : Cells) {a d : �
 
 pub on : {w : Went} {v o : Open} {c d m n : Cells} → w ≡ Next v → v ≡ o → c ≡ d → m ≡ n → after w c m ≡ next o d n
 on h p q r = rw (h, p, q, r)
+
+-- an operand that is found lies in memory whole, and its marks beside it
+pub fits : {map mem marks : List ℕ} → Ready map mem marks → (s : Size) (right x : ℕ) {a p : ℕ} {f : Spot}
+    → a ≡ aligned s x → f ≡ find map right a → f ≡ At p → (p + width s ≤ length mem) × (length mem ≡ length marks)
+fits {map} {mem} r s right x e g h = (found-fits map (length mem) (r .good) s right x _ e g h, r .same)

@@ -1,4 +1,4 @@
--- The sum of addresses is the definition's.
+-- A sum of 24 bits, and PC set to it.
 use mathlib.Core.Path.{_∙_}
 use borrow.Author.Needs.{needs}
 use Rattle.step.proofs.core.plus.Statement.{statement}
