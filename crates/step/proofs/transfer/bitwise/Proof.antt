@@ -32,7 +32,8 @@ tested-requires : tie.Need-tested-requires
 tested-requires c κs =
     let p = c .before .before in
     let s = p .before .before .before .before .before .before .before .before .before .before in
-    let f = fits (s .pre .0) Byte 1 (sum24 (p .before .before .before .before .before .reg .result .val) (s .args .disp)) (p .before .before .before .address .ensures) (p .before .before .find .ensures) (p .p .given .1) in
+    let f = fits (s .pre .0) Byte 1 (sum24 (p .before .before .before .before .before .reg .result .val) (s .args .disp))
+    (p .before .before .before .address .ensures) (p .before .before .find .ensures) (p .p .given .1) in
     (s .pre .1, omega arith, f .1)
 
 only-tests-requires : tie.Need-only-tests-requires
@@ -73,7 +74,8 @@ change-requires : tie.Need-change-requires
 change-requires c κs =
     let p = c .before .before .before .before .before .before .before .before .before .before .before .before in
     let s = p .before .before .before .before .before .before .before .before .before .before in
-    let f = fits (s .pre .0) Byte 1 (sum24 (p .before .before .before .before .before .reg .result .val) (s .args .disp)) (p .before .before .before .address .ensures) (p .before .before .find .ensures) (p .p .given .1) in
+    let f = fits (s .pre .0) Byte 1 (sum24 (p .before .before .before .before .before .reg .result .val) (s .args .disp))
+    (p .before .before .before .address .ensures) (p .before .before .find .ensures) (p .p .given .1) in
     (s .pre .1, omega arith)
 
 plus-requires-2 : tie.Need-plus-requires-2
@@ -99,8 +101,10 @@ returns-3 c =
     opened _ _ _ _ (p .before .before .before .before .before .reg .ensures) (p .before .before .before .before .if1 .left)
     (placed _ _ _ _ _ _ (p .before .before .before .address .ensures) (p .before .before .find .ensures) (p .p .given .1)
     (rw (sym (t .before .only-tests .ensures) ∙ t .if2 .left)
-    (placed _ _ _ _ _ _ (p .before .before .before .address .ensures) (c .before .before .before .before .before .before .before .before .before .before .before .find2 .ensures) (c .before .before .before .before .before .before .before .before .before .enum-told .given .1)
-    (on (c .next2 .ensures) (c .before .plus2 .ensures) (c .before .before .before .before .before .before .set-z2 .ensures ∙ rw (t .before .before .tested .ensures .0, t .before .before .tested .ensures .1)) (c .before .before .before .before .change .ensures _)))))
+    (placed _ _ _ _ _ _ (p .before .before .before .address .ensures)
+    (c .before .before .before .before .before .before .before .before .before .before .before .find2 .ensures) (c .before .before .before .before .before .before .before .before .before .enum-told .given .1)
+    (on (c .next2 .ensures) (c .before .plus2 .ensures)
+    (c .before .before .before .before .before .before .set-z2 .ensures ∙ rw (t .before .before .tested .ensures .0, t .before .before .tested .ensures .1)) (c .before .before .before .before .change .ensures _)))))
 
 same-length-3 : tie.Need-same-length-3
 same-length-3 c = search needs

@@ -30,7 +30,8 @@ load-requires : tie.Need-load-requires
 load-requires c κs =
     let p = c .before in
     let s = p .before .before .before .before .before .before .before .before .before .before in
-    fits (s .pre .0) (s .args .size) 1 (sum24 (p .before .before .before .before .before .reg .result .val) (s .args .disp)) (p .before .before .before .address .ensures) (p .before .before .find .ensures) (p .p .given .1)
+    fits (s .pre .0) (s .args .size) 1 (sum24 (p .before .before .before .before .before .reg .result .val) (s .args .disp))
+    (p .before .before .before .address .ensures) (p .before .before .find .ensures) (p .p .given .1)
 
 put-reg-requires : tie.Need-put-reg-requires
 put-reg-requires c κs = search needs

@@ -33,7 +33,8 @@ store-requires : tie.Need-store-requires
 store-requires c κs =
     let p = c .before .before .before .before in
     let s = p .before .before .before .before .before .before .before .before in
-    fits (s .pre .0) (s .args .size) 2 (sum24 (p .before .before .before .before .before .reg .result .val) (s .args .disp)) (p .before .before .before .address .ensures) (p .before .before .find .ensures) (p .p .given .1)
+    fits (s .pre .0) (s .args .size) 2 (sum24 (p .before .before .before .before .before .reg .result .val) (s .args .disp))
+    (p .before .before .before .address .ensures) (p .before .before .find .ensures) (p .p .given .1)
 
 plus-requires : tie.Need-plus-requires
 plus-requires c κs = search needs
@@ -56,7 +57,8 @@ returns-2 c =
     let p = c .before .before .before .before .before .before .before .before .before .before .before in
     opened _ _ _ _ (p .before .before .before .before .before .reg .ensures) (p .before .before .before .before .if1 .left)
     (placed _ _ _ _ _ _ (p .before .before .before .address .ensures) (p .before .before .find .ensures) (p .p .given .1)
-    (on (c .next .ensures) (c .before .plus .ensures) refl (c .before .before .before .before .before .before .store .ensures ∙ rw (c .before .before .before .before .before .before .before .before .before .reg2 .ensures))))
+    (on (c .next .ensures) (c .before .plus .ensures) refl
+    (c .before .before .before .before .before .before .store .ensures ∙ rw (c .before .before .before .before .before .before .before .before .before .reg2 .ensures))))
 
 returns-3 : tie.Need-returns-3
 unfolding store
