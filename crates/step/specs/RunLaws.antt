@@ -51,9 +51,10 @@ module _ (map : List ℕ) (o : Open) (c m : Cells) (w : Out) {d q : Cells} (e : 
   pub on-well-formed : goesOn (w .answer) ≡ true → WellFormed o c → Bytes m → WellFormed (w .core) d × Bytes q
   on-well-formed t f b =
       let e1 : next (w .core) d q ≡ step map o c m = rw t at e in
-      let g = step-well-formed map o c m f b (w .core) (ap (λ (x : Outcome). x .went) (sym e1)) in
-      (subst (λ (x : Cells). WellFormed (w .core) x) (ap (λ (x : Outcome). x .cells) (sym e1)) (g .0),
-      subst Bytes (ap (λ (x : Outcome). x .mem) (sym e1)) (g .1))
+      let g = step-well-formed map o c m f b (w .core) (ap (λ (x : Outcome). x .went) (sym e1)) in (
+        subst (λ (x : Cells). WellFormed (w .core) x) (ap (λ (x : Outcome). x .cells) (sym e1)) (g .0),
+        subst Bytes (ap (λ (x : Outcome). x .mem) (sym e1)) (g .1),
+      )
 
 -- memory and marks as long as they were are ready too
 pub still-ready : {map m k m₀ k₀ : List ℕ} → Ready map m₀ k₀ → length m ≡ length m₀ → length k ≡ length k₀ → Ready map m k

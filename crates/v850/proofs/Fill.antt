@@ -22,9 +22,13 @@ filled-none f size n l h e = record { below = omega arith; long = h; first = sym
 pub filled-next : (f : ℕ → List ℕ) (size n i v w : ℕ) (l : List ℕ) → n ≤ size → i < n → f (suc i) ≡ f i ++ (w ∷ []) → v ≡ w
     → Filled f size n i l → Filled f size n (i + 1) (set l i v)
 filled-next f size n i v w l le lt e p h =
-    record { below = omega arith; long = length-set l i v ∙ h .long; first =
-        ap (λ (k : ℕ). take k (set l i v)) (add-one i) ∙ take-suc-set l i v (omega (arith, h .long))
-        ∙ ap (λ (s : List ℕ). s ++ (v ∷ [])) (h .first) ∙ ap (λ (x : ℕ). f i ++ (x ∷ [])) p ∙ sym e ∙ ap f (sym (add-one i)) }
+    record {
+      below = omega arith;
+      long = length-set l i v ∙ h .long;
+      first =
+          ap (λ (k : ℕ). take k (set l i v)) (add-one i) ∙ take-suc-set l i v (omega (arith, h .long))
+          ∙ ap (λ (s : List ℕ). s ++ (v ∷ [])) (h .first) ∙ ap (λ (x : ℕ). f i ++ (x ∷ [])) p ∙ sym e ∙ ap f (sym (add-one i));
+    }
 
 pub filled-part : (f : ℕ → List ℕ) (size n i : ℕ) (l : List ℕ) → n ≤ i → Filled f size n i l → take n l ≡ f n
 filled-part f size n i l le h = let e : i ≡ n = omega (arith, h .below) in rw e at (h .first)
@@ -82,7 +86,7 @@ bytes-turn ws b₀ b b′ i h p q =
     let t : take (4 * i) b ≡ bytesOf (take i ws) = ap (take (4 * i)) p ∙ take-at (bytesOf (take i ws)) (drop (4 * i) b₀) (4 * i) n in
     let d : drop (4 * i) b ≡ drop (4 * i) b₀ = ap (drop (4 * i)) p ∙ drop-at (bytesOf (take i ws)) (drop (4 * i) b₀) (4 * i) n in
     let d4 : drop (4 * i + 4) b ≡ drop (4 * (i + 1)) b₀ =
-        sym (drop-drop 4 (4 * i) b) ∙ ap (drop 4) d ∙ drop-drop 4 (4 * i) b₀ ∙ ap (λ (k : ℕ). drop k b₀) {x = 4 * i + 4} {y = 4 * (i + 1)} (omega arith) in
+    sym (drop-drop 4 (4 * i) b) ∙ ap (drop 4) d ∙ drop-drop 4 (4 * i) b₀ ∙ ap (λ (k : ℕ). drop k b₀) {x = 4 * i + 4} {y = 4 * (i + 1)} (omega arith) in
     q ∙ ap (λ (s : List ℕ). s ++ (bytesOfWord (getD ws i 0) ++ drop (4 * i + 4) b)) t
     ∙ ap (λ (s : List ℕ). bytesOf (take i ws) ++ (bytesOfWord (getD ws i 0) ++ s)) d4
     ∙ sym (append-assoc (bytesOf (take i ws)) (bytesOfWord (getD ws i 0)) (drop (4 * (i + 1)) b₀))
@@ -108,20 +112,26 @@ pub marks-turn : (m : List ℕ) (i b r : ℕ) → Marks m → 0 < i → i ≤ 32
 marks-turn m i b r h z l p q =
     let e : suc (i - 1) ≡ i = omega arith in
     let g : b + 2 * r ≡ packBits (drop (i - 1) (take 32 m)) =
-        ap (λ (x : ℕ). x + 2 * r) p ∙ ap (λ (x : ℕ). getD m (i - 1) 0 + 2 * x) (q ∙ ap (λ (k : ℕ). packBits (drop k (take 32 m))) (sym e))
-        ∙ pack-more m (i - 1) h (omega arith) in
+    ap (λ (x : ℕ). x + 2 * r) p ∙ ap (λ (x : ℕ). getD m (i - 1) 0 + 2 * x) (q ∙ ap (λ (k : ℕ). packBits (drop k (take 32 m))) (sym e))
+    ∙ pack-more m (i - 1) h (omega arith) in
     (g, subst (λ (x : ℕ). x < 2 ^ 32) (sym g) (pack-word m (i - 1) h))
 
 -- the eleven words between the registers and the map: PSW and the words of marks are computed
 pub eleven-stored : (l s map : List ℕ) (pc psw psw′ eipc eipsw fepc fepsw ecr code waits regs regs′ marks marks′ : ℕ)
     → length l ≡ 59 → length map ≡ 16 → take 32 l ≡ s → psw ≡ psw′ → regs ≡ regs′ → marks ≡ marks′
     → take 43
-        (set (set (set (set (set (set (set (set (set (set (set l 32 pc) 33 psw) 34 eipc) 35 eipsw) 36 fepc) 37 fepsw) 38 ecr) 39 code) 40 waits) 41 regs) 42 marks)
-        ++ take 16 map
-      ≡ s ++ (pc ∷ psw′ ∷ eipc ∷ eipsw ∷ fepc ∷ fepsw ∷ ecr ∷ code ∷ waits ∷ regs′ ∷ marks′ ∷ map)
+    (set (set (set (set (set (set (set (set (set (set (set l 32 pc) 33 psw) 34 eipc) 35 eipsw) 36 fepc) 37 fepsw) 38 ecr) 39 code) 40 waits) 41 regs) 42 marks)
+    ++ take 16 map
+    ≡ s ++ (pc ∷ psw′ ∷ eipc ∷ eipsw ∷ fepc ∷ fepsw ∷ ecr ∷ code ∷ waits ∷ regs′ ∷ marks′ ∷ map)
 eleven-stored l s map pc psw psw′ eipc eipsw fepc fepsw ecr code waits regs regs′ marks marks′ h n p e f g =
-    rw (e, f, g, take-all 16 map (omega arith),
-      stored-part (pc ∷ psw′ ∷ eipc ∷ eipsw ∷ fepc ∷ fepsw ∷ ecr ∷ code ∷ waits ∷ regs′ ∷ marks′ ∷ []) l 32 43 (omega arith) refl, p)
+    rw (
+      e,
+      f,
+      g,
+      take-all 16 map (omega arith),
+      stored-part (pc ∷ psw′ ∷ eipc ∷ eipsw ∷ fepc ∷ fepsw ∷ ecr ∷ code ∷ waits ∷ regs′ ∷ marks′ ∷ []) l 32 43 (omega arith) refl,
+      p,
+    )
     (append-assoc s (pc ∷ psw′ ∷ eipc ∷ eipsw ∷ fepc ∷ fepsw ∷ ecr ∷ code ∷ waits ∷ regs′ ∷ marks′ ∷ []) map)
 
 -- the words up to the map, and k words of the map
@@ -144,6 +154,7 @@ mapped-next {l₀} {l} map k h n p = record { below = omega arith; filled = next
         let a : suc (43 + k) - 43 ≡ suc k = omega arith in
         let b : 43 + k - 43 ≡ k = omega arith in
         rw (a, b, take-more map k (omega arith)) (sym (append-assoc (take 43 l₀) (take k map) (getD map k 0 ∷ [])))
+
     next : Filled (withMap l₀ map) 59 59 (43 + (k + 1)) (set l (43 + k) (getD map k 0))
     next =
         subst (λ (j : ℕ). Filled (withMap l₀ map) 59 59 j (set l (43 + k) (getD map k 0))) {x = 43 + k + 1} {y = 43 + (k + 1)} (omega arith)

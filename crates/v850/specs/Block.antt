@@ -82,8 +82,16 @@ mapIn ws = drop atMap ws
 
 abbrev pub coreIn : List ℕ → Open
 coreIn ws =
-    record { pc = getD ws atPC 0; np = getD ws atPSW 0 / 2 ^ 7 % 2; ep = getD ws atPSW 0 / 2 ^ 6 % 2; id = getD ws atPSW 0 / 2 ^ 5 % 2
-           ; ecr = getD ws atECR 0; code = getD ws atCode 0; nmi = byte 1 (getD ws atWaits 0); halted = byte 0 (getD ws atWaits 0) }
+    record {
+      pc = getD ws atPC 0;
+      np = getD ws atPSW 0 / 2 ^ 7 % 2;
+      ep = getD ws atPSW 0 / 2 ^ 6 % 2;
+      id = getD ws atPSW 0 / 2 ^ 5 % 2;
+      ecr = getD ws atECR 0;
+      code = getD ws atCode 0;
+      nmi = byte 1 (getD ws atWaits 0);
+      halted = byte 0 (getD ws atWaits 0);
+    }
 
 -- n bits of a word from bit i on, each as a mark
 unfoldable pub bitsFrom : ℕ → ℕ → ℕ → List ℕ
@@ -98,8 +106,8 @@ numsIn ws =
 abbrev pub marksIn : List ℕ → List ℕ
 marksIn ws =
     bitsFrom (getD ws atRegMarks 0) 0 32
-      ++ (byte 3 (getD ws atSysMarks 0) % 2 ∷ byte 1 (getD ws atSysMarks 0) ∷ byte 3 (getD ws atSysMarks 0) / 2 % 2
-      ∷ byte 2 (getD ws atSysMarks 0) ∷ 0 ∷ byte 0 (getD ws atSysMarks 0) % 2 ^ 5 ∷ [])
+    ++ (byte 3 (getD ws atSysMarks 0) % 2 ∷ byte 1 (getD ws atSysMarks 0) ∷ byte 3 (getD ws atSysMarks 0) / 2 % 2
+    ∷ byte 2 (getD ws atSysMarks 0) ∷ 0 ∷ byte 0 (getD ws atSysMarks 0) % 2 ^ 5 ∷ [])
 
 abbrev pub cellsIn : List ℕ → Cells
 cellsIn ws = both (numsIn ws) (marksIn ws)
@@ -112,22 +120,22 @@ packBits (b ∷ bs) = b + 2 * packBits bs
 abbrev pub wordsOf : Open → Cells → List ℕ → List ℕ
 wordsOf o c map =
     take 32 (c .nums)
-      ++ (o .pc ∷ psw o c .on
-      ∷ getD (c .nums) (sys EIPC) 0 ∷ getD (c .nums) (sys EIPSW) 0 ∷ getD (c .nums) (sys FEPC) 0 ∷ getD (c .nums) (sys FEPSW) 0
-      ∷ o .ecr ∷ o .code ∷ (o .halted + 2 ^ 8 * o .nmi)
-      ∷ packBits (take 32 (c .marks))
-      ∷ (psw o c .marks + 2 ^ 8 * getD (c .marks) (sys EIPSW) 0 + 2 ^ 16 * getD (c .marks) (sys FEPSW) 0
-          + 2 ^ 24 * (getD (c .marks) (sys EIPC) 0 + 2 * getD (c .marks) (sys FEPC) 0))
-      ∷ map)
+    ++ (o .pc ∷ psw o c .on
+    ∷ getD (c .nums) (sys EIPC) 0 ∷ getD (c .nums) (sys EIPSW) 0 ∷ getD (c .nums) (sys FEPC) 0 ∷ getD (c .nums) (sys FEPSW) 0
+    ∷ o .ecr ∷ o .code ∷ (o .halted + 2 ^ 8 * o .nmi)
+    ∷ packBits (take 32 (c .marks))
+    ∷ (psw o c .marks + 2 ^ 8 * getD (c .marks) (sys EIPSW) 0 + 2 ^ 16 * getD (c .marks) (sys FEPSW) 0
+    + 2 ^ 24 * (getD (c .marks) (sys EIPC) 0 + 2 * getD (c .marks) (sys FEPC) 0))
+    ∷ map)
 
 -- STATE: the tests, in the order of the order
 unfoldable pub goodState : List ℕ → Bool
 goodState ws =
     eqb (getD ws 0 0) 0 && (eqb (getD ws atRegMarks 0 % 2) 0
-      && (eqb (getD ws atPC 0 % 2) 0 && (leb (getD ws atPC 0) 0xFFFFFE
-      && (leb (getD ws atPSW 0) 0xFF && (leb (getD ws atEIPSW 0) 0xFF && (leb (getD ws atFEPSW 0) 0xFF
-      && (leb (getD ws atEIPC 0) 0xFFFFFF && (leb (getD ws atFEPC 0) 0xFFFFFF
-      && (goodCode (getD ws atCode 0)
-      && (leb (byte 0 (getD ws atWaits 0)) 1 && (leb (byte 1 (getD ws atWaits 0)) 1
-      && (eqb (byte 2 (getD ws atWaits 0)) 0 && (eqb (byte 3 (getD ws atWaits 0)) 0
-      && (ltb (byte 0 (getD ws atSysMarks 0)) (2 ^ 5) && leb (byte 3 (getD ws atSysMarks 0)) 3))))))))))))))
+    && (eqb (getD ws atPC 0 % 2) 0 && (leb (getD ws atPC 0) 0xFFFFFE
+    && (leb (getD ws atPSW 0) 0xFF && (leb (getD ws atEIPSW 0) 0xFF && (leb (getD ws atFEPSW 0) 0xFF
+    && (leb (getD ws atEIPC 0) 0xFFFFFF && (leb (getD ws atFEPC 0) 0xFFFFFF
+    && (goodCode (getD ws atCode 0)
+    && (leb (byte 0 (getD ws atWaits 0)) 1 && (leb (byte 1 (getD ws atWaits 0)) 1
+    && (eqb (byte 2 (getD ws atWaits 0)) 0 && (eqb (byte 3 (getD ws atWaits 0)) 0
+    && (ltb (byte 0 (getD ws atSysMarks 0)) (2 ^ 5) && leb (byte 3 (getD ws atSysMarks 0)) 3))))))))))))))

@@ -37,7 +37,7 @@ formed-marks {o} {c} w =
 abbrev pub sysMarks : List ℕ → ℕ
 sysMarks m =
     getD m (sys PSW) 0 % 2 ^ 5 + 2 ^ 8 * getD m (sys EIPSW) 0 + 2 ^ 16 * getD m (sys FEPSW) 0
-      + 2 ^ 24 * (getD m (sys EIPC) 0 + 2 * getD m (sys FEPC) 0)
+    + 2 ^ 24 * (getD m (sys EIPC) 0 + 2 * getD m (sys FEPC) 0)
 
 -- the registers' marks
 regs-bits : (m : List ℕ) → Marks m → Below 2 (take 32 m)
@@ -123,6 +123,7 @@ each P s a b d e f g h hs ha hb hd he hf hg hz i = cases (ltb i 32) refl
     tail (suc (suc (suc (suc zero)))) = hf
     tail (suc (suc (suc (suc (suc zero))))) = hg
     tail (suc (suc (suc (suc (suc (suc j)))))) = hz _ (omega arith)
+
     cases : (t : Bool) → ltb i 32 ≡ t → P i (getD (s ++ (a ∷ b ∷ d ∷ e ∷ f ∷ g ∷ [])) i 0)
     cases true q =
         let l : i < length s = omega (arith, ltb-true i 32 q) in
@@ -213,13 +214,19 @@ module _ (o : Open) (c : Cells) (map : List ℕ) (w : WellFormed o c) where
   in-marks =
       rw the-sys-marks
       (marks-parts (getD (c .marks) (sys PSW) 0) (getD (c .marks) (sys EIPSW) 0) (getD (c .marks) (sys FEPSW) 0) (getD (c .marks) (sys EIPC) 0)
-        (getD (c .marks) (sys FEPC) 0) (w .small-marks 33) (w .small-marks 35) (w .small-marks 32) (w .small-marks 34))
+      (getD (c .marks) (sys FEPC) 0) (w .small-marks 33) (w .small-marks 35) (w .small-marks 32) (w .small-marks 34))
 
   core-back : coreIn (wordsOf o c map) ≡ o
   core-back = λ i.
       record {
-        pc = the-pc i; np = in-psw .0 i; ep = in-psw .1 i; id = in-psw .2 i;
-        ecr = the-ecr i; code = the-code i; nmi = in-waits .1 i; halted = in-waits .0 i;
+        pc = the-pc i;
+        np = in-psw .0 i;
+        ep = in-psw .1 i;
+        id = in-psw .2 i;
+        ecr = the-ecr i;
+        code = the-code i;
+        nmi = in-waits .1 i;
+        halted = in-waits .0 i;
       }
 
   regs-back : take 32 (wordsOf o c map) ≡ take 32 (c .nums)
@@ -236,16 +243,16 @@ module _ (o : Open) (c : Cells) (map : List ℕ) (w : WellFormed o c) where
       let m = c .marks in
       let k = formed-marks w in
       let regs : bitsFrom (getD (wordsOf o c map) atRegMarks 0) 0 32 ≡ take 32 m =
-          ap (λ (x : ℕ). bitsFrom x 0 32) the-reg-marks
-          ∙ ap (λ (n : ℕ). bitsFrom (packBits (take 32 m)) 0 n) (sym (length-take-le 32 m (omega (arith, k .long))))
-          ∙ bits-pack (take 32 m) (regs-bits m k) in
+      ap (λ (x : ℕ). bitsFrom x 0 32) the-reg-marks
+      ∙ ap (λ (n : ℕ). bitsFrom (packBits (take 32 m)) 0 n) (sym (length-take-le 32 m (omega (arith, k .long))))
+      ∙ bits-pack (take 32 m) (regs-bits m k) in
       let eipc : byte 3 (getD (wordsOf o c map) atSysMarks 0) % 2 ≡ getD m (sys EIPC) 0 =
-          ap (λ (x : ℕ). x % 2) (in-marks .3) ∙ omega (arith, k .eipc) in
+      ap (λ (x : ℕ). x % 2) (in-marks .3) ∙ omega (arith, k .eipc) in
       let fepc : byte 3 (getD (wordsOf o c map) atSysMarks 0) / 2 % 2 ≡ getD m (sys FEPC) 0 =
-          ap (λ (x : ℕ). x / 2 % 2) (in-marks .3) ∙ omega (arith, k .eipc, k .fepc) in
+      ap (λ (x : ℕ). x / 2 % 2) (in-marks .3) ∙ omega (arith, k .eipc, k .fepc) in
       let ecr : 0 ≡ getD m 36 0 = omega (arith, w .small-marks 36) in
       let flags : byte 0 (getD (wordsOf o c map) atSysMarks 0) % 2 ^ 5 ≡ getD m (sys PSW) 0 =
-          ap (λ (x : ℕ). x % 2 ^ 5) (in-marks .0) ∙ omega (arith, w .small-marks 37) in
+      ap (λ (x : ℕ). x % 2 ^ 5) (in-marks .0) ∙ omega (arith, w .small-marks 37) in
       ap₂ (λ (s t : List ℕ). s ++ t) regs (λ i. eipc i ∷ in-marks .1 i ∷ fepc i ∷ in-marks .2 i ∷ ecr i ∷ flags i ∷ []) ∙ six-there m (k .long)
 
   cells-back : cellsIn (wordsOf o c map) ≡ c
@@ -306,11 +313,22 @@ passed ws h =
     let h14 = and-true (h13 .1) in
     let h15 = and-true (h14 .1) in
     record {
-      r0 = eqb-true _ _ (h1 .0); r0-mark = eqb-true _ _ (h2 .0); pc-even = eqb-true _ _ (h3 .0); pc = leb-true _ _ (h4 .0);
-      psw = leb-true _ _ (h5 .0); eipsw = leb-true _ _ (h6 .0); fepsw = leb-true _ _ (h7 .0);
-      eipc = leb-true _ _ (h8 .0); fepc = leb-true _ _ (h9 .0); code = h10 .0;
-      halted = leb-true _ _ (h11 .0); nmi = leb-true _ _ (h12 .0); filler = eqb-true _ _ (h13 .0); filler2 = eqb-true _ _ (h14 .0);
-      psw-marks = ltb-true _ _ (h15 .0); pc-marks = leb-true _ _ (h15 .1);
+      r0 = eqb-true _ _ (h1 .0);
+      r0-mark = eqb-true _ _ (h2 .0);
+      pc-even = eqb-true _ _ (h3 .0);
+      pc = leb-true _ _ (h4 .0);
+      psw = leb-true _ _ (h5 .0);
+      eipsw = leb-true _ _ (h6 .0);
+      fepsw = leb-true _ _ (h7 .0);
+      eipc = leb-true _ _ (h8 .0);
+      fepc = leb-true _ _ (h9 .0);
+      code = h10 .0;
+      halted = leb-true _ _ (h11 .0);
+      nmi = leb-true _ _ (h12 .0);
+      filler = eqb-true _ _ (h13 .0);
+      filler2 = eqb-true _ _ (h14 .0);
+      psw-marks = ltb-true _ _ (h15 .0);
+      pc-marks = leb-true _ _ (h15 .1);
     }
 
 pub passes : (ws : List ℕ) → Passed ws → goodState ws ≡ true
@@ -414,10 +432,10 @@ module _ (ws : List ℕ) (long : length ws ≡ WORDS) (words : Below (2 ^ 32) ws
       let fepsw : getD n 35 0 ≡ getD ws atFEPSW 0 = after (take 32 ws) _ 3 first-long in
       let waits = waits-whole (getD ws atWaits 0) (words .at atWaits) (p .filler) (p .filler2) in
       let reg-marks : packBits (take 32 m) ≡ getD ws atRegMarks 0 =
-          ap packBits (take-at bits _ 32 bl) ∙ pack-bits (getD ws atRegMarks 0) 32 (words .at atRegMarks) in
+      ap packBits (take-at bits _ 32 bl) ∙ pack-bits (getD ws atRegMarks 0) 32 (words .at atRegMarks) in
       let sys-marks : sysMarks m ≡ getD ws atSysMarks 0 =
-          rw (after bits _ 5 bl, after bits _ 1 bl, after bits _ 3 bl, after bits _ 0 bl, after bits _ 2 bl)
-          (marks-whole (getD ws atSysMarks 0) (words .at atSysMarks) (p .psw-marks) (p .pc-marks)) in
+      rw (after bits _ 5 bl, after bits _ 1 bl, after bits _ 3 bl, after bits _ 0 bl, after bits _ 2 bl)
+      (marks-whole (getD ws atSysMarks 0) (words .at atSysMarks) (p .psw-marks) (p .pc-marks)) in
       ap₂ (λ (s t : List ℕ). s ++ t) regs
       (λ i. getD ws atPC 0 ∷ psw i ∷ eipc i ∷ eipsw i ∷ fepc i ∷ fepsw i ∷ getD ws atECR 0 ∷ getD ws atCode 0 ∷ waits i ∷ reg-marks i ∷ sys-marks i ∷ drop atMap ws)
       ∙ eleven-there ws long

@@ -45,12 +45,12 @@ finished map e =
 unfoldable pub called : List ℕ → List ℕ → List ℕ → List ℕ → ℕ → Left
 called block memory marks report budget =
     cond (goodSizes block memory marks report)
-      (cond (goodMap (mapIn (wordsIn block)) (length memory))
-        (cond (goodState (wordsIn block))
-          (finished (mapIn (wordsIn block)) (run budget 0 (mapIn (wordsIn block)) (coreIn (wordsIn block)) (cellsIn (wordsIn block)) (both memory marks)))
-          (left State block memory marks (replicate REPORT 0)))
-        (left Map block memory marks (replicate REPORT 0)))
-      (left Size block memory marks report)
+    (cond (goodMap (mapIn (wordsIn block)) (length memory))
+    (cond (goodState (wordsIn block))
+    (finished (mapIn (wordsIn block)) (run budget 0 (mapIn (wordsIn block)) (coreIn (wordsIn block)) (cellsIn (wordsIn block)) (both memory marks)))
+    (left State block memory marks (replicate REPORT 0)))
+    (left Map block memory marks (replicate REPORT 0)))
+    (left Size block memory marks report)
 
 -- Reset: the map stays
 pub record Reset : Type 0 where
@@ -60,11 +60,11 @@ pub record Reset : Type 0 where
 unfoldable pub reset : List ℕ → Reset
 reset block =
     cond (eqb (length block) BYTES)
-      (record { answer = number Done; block = bytesOf (wordsOf resetOpen resetCells (mapIn (wordsIn block))) })
-      (record { answer = number Size; block = block })
+    (record { answer = number Done; block = bytesOf (wordsOf resetOpen resetCells (mapIn (wordsIn block))) })
+    (record { answer = number Size; block = block })
 
 -- The region view: that very part of the memory, or an empty one
 unfoldable pub view : List ℕ → List ℕ → ℕ → List ℕ
 view block memory k =
     cond (leb k 3 && (eqb (length block) BYTES && (leb (length memory) MEMORY && goodMap (mapIn (wordsIn block)) (length memory))))
-      (take (size (mapIn (wordsIn block)) k) (drop (offset (mapIn (wordsIn block)) k) memory)) []
+    (take (size (mapIn (wordsIn block)) k) (drop (offset (mapIn (wordsIn block)) k) memory)) []

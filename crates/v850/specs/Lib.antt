@@ -9,3 +9,4 @@ pub mod SecrecyLaws
 pub mod Secrecy
 pub mod AnswerLaws
 pub mod Answers
+pub mod CallLaws

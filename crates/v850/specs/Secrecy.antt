@@ -23,24 +23,24 @@ use Rattle.v850.specs.AlikeStarts.{AlikeWords, AlikeMemories, Passes, Al
 use Rattle.v850.specs.SecrecyLaws.{Good, formed, map-long, map-words, together-good, map-same, core-same, cells-alike, words-alike}
 
 -- the end of the run of a call that passes, from the words of its block
-abbrev runOf : ℕ → List ℕ → List ℕ → List ℕ → Ended
+abbrev pub runOf : ℕ → List ℕ → List ℕ → List ℕ → Ended
 runOf budget ws memory marks = run budget 0 (mapIn ws) (coreIn ws) (cellsIn ws) (both memory marks)
 
 tests-pass : {A : Type 0} (a b d : Bool) (x y z u : A) → a ≡ true → b ≡ true → d ≡ true → cond a (cond b (cond d x y) z) u ≡ x
 tests-pass a b d x y z u p q r = rw (p, q, r)
 
 module _ {block memory marks report : List ℕ} (p : Passes block memory marks report) where
-  called-passes : (budget : ℕ)
+  pub called-passes : (budget : ℕ)
       → called block memory marks report budget ≡ finished (mapIn (wordsIn block)) (runOf budget (wordsIn block) memory marks)
   unfolding called
   called-passes budget =
       tests-pass (goodSizes block memory marks report) (goodMap (mapIn (wordsIn block)) (length memory)) (goodState (wordsIn block)) _ _ _ _
       (p .sizes) (p .map) (p .state)
 
-  good-words : Below (2 ^ 8) block → Good (wordsIn block)
+  pub good-words : Below (2 ^ 8) block → Good (wordsIn block)
   good-words h = record { long = words-length block 0 WORDS; words = words-below block 0 WORDS h; state = p .state }
 
-  marks-long : length memory ≡ length marks
+  pub marks-long : length memory ≡ length marks
   marks-long =
       let t = and-yes (eqb (length block) BYTES) _ (subst T (sym (p .sizes)) tt) .1 in
       let u = and-yes (eqb (length report) REPORT) _ t .1 in

@@ -8,29 +8,44 @@ ghost use Rattle.machine.specs.Psw.{psw};
 ghost use Rattle.machine.specs.WellFormed.{WellFormed};
 ghost use Rattle.v850.specs.Block.{bytesOf, bytesOfWord, wordAt, wordsFrom, BYTES, WORDS, byte, mapIn, coreIn, numsIn, marksIn, packBits, wordsOf, goodState};
 ghost use Rattle.v850.specs.BlockLaws.{Marks, sysMarks};
-
 use machine::Open;
 
 // Which word is which. Words 0 to 31 are r0 to r31.
 const PC: usize = 32;
+
 const PSW: usize = 33;
+
 const EIPC: usize = 34;
+
 const EIPSW: usize = 35;
+
 const FEPC: usize = 36;
+
 const FEPSW: usize = 37;
+
 const ECR: usize = 38;
+
 const CODE: usize = 39;
+
 const WAITS: usize = 40;
+
 const REG_MARKS: usize = 41;
+
 const SYS_MARKS: usize = 42;
+
 const MAP: usize = 43;
 
 // Which cell is which. Cells 0 to 31 are r0 to r31.
 const CELL_EIPC: usize = 32;
+
 const CELL_EIPSW: usize = 33;
+
 const CELL_FEPC: usize = 34;
+
 const CELL_FEPSW: usize = 35;
+
 const CELL_ECR: usize = 36;
+
 const CELL_PSW: usize = 37;
 
 // A byte as a word.
@@ -103,7 +118,9 @@ pub fn good_state(ws: &[u32; 59]) -> bool
                                             & ((halted <= 1)
                                                 & ((nmi <= 1)
                                                     & ((filler == 0)
-                                                        & ((filler2 == 0) & ((psw_marks < 32) & (pc_marks <= 3)))))))))))))))
+                                                        & ((filler2 == 0)
+                                                            & ((psw_marks < 32)
+                                                                & (pc_marks <= 3)))))))))))))))
 }
 
 // Taken apart: the map.

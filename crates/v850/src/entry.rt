@@ -3,7 +3,6 @@ ghost use mathlib.Core.Path.{_≡_};
 ghost use Rattle.machine.specs.Run.{number};
 ghost use Rattle.v850.specs.Entry.{Left, called, Reset, reset, view};
 ghost use Rattle.v850.specs.Handed.{viewFrom, onBy};
-
 use crate::block;
 use machine::Answer;
 use machine::Open;
@@ -13,8 +12,11 @@ use step::run;
 
 // The answers by number.
 const DONE: u32 = 0;
+
 const SIZE: u32 = 1;
+
 const MAP: u32 = 2;
+
 const STATE: u32 = 3;
 
 fn number(a: Answer) -> u32
@@ -37,7 +39,13 @@ fn number(a: Answer) -> u32
 // The run: the checks SIZE, MAP and STATE in this order, then steps until the budget is used up or one is refused. The block is
 // taken apart once and put together once, and nothing here walks the memory or the marks.
 #[no_mangle]
-pub extern "C" fn v850_run(block: &mut [u8], memory: &mut [u8], marks: &mut [u8], report: &mut [u8], budget: u32) -> u32
+pub extern "C" fn v850_run(
+    block: &mut [u8],
+    memory: &mut [u8],
+    marks: &mut [u8],
+    report: &mut [u8],
+    budget: u32,
+) -> u32
     ensures { λ r. ⌜ record { answer = r; block = now (block .exit); memory = now (memory .exit); marks = now (marks .exit); report = now (report .exit) } ≡ called (now (block .entry)) (now (memory .entry)) (now (marks .entry)) (now (report .entry)) budget ⌝ }
 {
     if block.len() != 236 {

@@ -4,8 +4,6 @@ use Rattle.machine.specs.Step.{execute}
 use Rattle.step.specs.Tasks.{DecodedFields}
 use Rattle.step.proofs.exec.execute.Statement.{statement}
 use Rattle.step.proofs.exec.execute.Tie as tie
-use Rattle.step.proofs.exec.execute.Reads as reads
-use Rattle.step.proofs.exec.execute.Lts as lts
 
 enum-known-d : tie.Need-enum-known-d
 enum-known-d c = search needs

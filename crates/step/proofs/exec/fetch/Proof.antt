@@ -6,8 +6,6 @@ use Rattle.machine.specs.Step.{instruction}
 use Rattle.step.specs.FetchLaws.{next-even, half-small, half-fits, fetch-nowhere, fetch-secret, instruction-long, instruction-short}
 use Rattle.step.proofs.exec.fetch.Statement.{statement}
 use Rattle.step.proofs.exec.fetch.Tie as tie
-use Rattle.step.proofs.exec.fetch.Reads as reads
-use Rattle.step.proofs.exec.fetch.Lts as lts
 
 find-requires : tie.Need-find-requires
 find-requires c κs = search needs

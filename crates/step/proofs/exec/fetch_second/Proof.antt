@@ -5,8 +5,6 @@ use denote.Ref.{now}
 use Rattle.step.specs.FetchLaws.{half-small, half-fits, fetch-nowhere, fetch-secret, fetch-found}
 use Rattle.step.proofs.exec.fetch_second.Statement.{statement}
 use Rattle.step.proofs.exec.fetch_second.Tie as tie
-use Rattle.step.proofs.exec.fetch_second.Reads as reads
-use Rattle.step.proofs.exec.fetch_second.Lts as lts
 
 find-requires : tie.Need-find-requires
 find-requires c κs = search needs

@@ -6,8 +6,6 @@ use Rattle.machine.specs.Marked.{both}
 use Rattle.step.specs.TaskLaws.{decoded-fields}
 use Rattle.step.proofs.exec.instruction.Statement.{statement}
 use Rattle.step.proofs.exec.instruction.Tie as tie
-use Rattle.step.proofs.exec.instruction.Reads as reads
-use Rattle.step.proofs.exec.instruction.Lts as lts
 
 fetch-requires : tie.Need-fetch-requires
 fetch-requires c κs = c .before .before .before .before .pre

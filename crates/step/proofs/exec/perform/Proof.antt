@@ -4,8 +4,6 @@ use Rattle.step.specs.Tasks.{doTask, TaskFields}
 use Rattle.step.specs.StepLaws.{on}
 use Rattle.step.proofs.exec.perform.Statement.{statement}
 use Rattle.step.proofs.exec.perform.Tie as tie
-use Rattle.step.proofs.exec.perform.Reads as reads
-use Rattle.step.proofs.exec.perform.Lts as lts
 
 enum-known-t : tie.Need-enum-known-t
 enum-known-t c = search needs

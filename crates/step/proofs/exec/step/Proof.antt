@@ -7,8 +7,6 @@ use Rattle.machine.specs.InvariantLaws.{code-target}
 use Rattle.step.specs.RequestLaws.{nmi-taken, no-nmi, nmi-held, code-taken, no-code, code-held, code-masked, none-waits, step-nmi, step-code, step-asleep, step-instruction}
 use Rattle.step.proofs.exec.step.Statement.{statement}
 use Rattle.step.proofs.exec.step.Tie as tie
-use Rattle.step.proofs.exec.step.Reads as reads
-use Rattle.step.proofs.exec.step.Lts as lts
 
 take-nmi-requires : tie.Need-take-nmi-requires
 take-nmi-requires c κs = search needs

@@ -4,8 +4,6 @@ use Rattle.step.specs.Tasks.{doSystem, SystemFields}
 use Rattle.step.specs.StepLaws.{on}
 use Rattle.step.proofs.exec.system.Statement.{statement}
 use Rattle.step.proofs.exec.system.Tie as tie
-use Rattle.step.proofs.exec.system.Reads as reads
-use Rattle.step.proofs.exec.system.Lts as lts
 
 enum-known-s : tie.Need-enum-known-s
 enum-known-s c = search needs

@@ -18,9 +18,6 @@ use Rattle.machine.specs.declared.Answer.{Answer}
 use Rattle.machine.specs.declared.Answer.the-variants.{Done, Size, Map, State, Asleep, NoFetch, Undefined, Leak, NoRead, NoWrite}
 use Rattle.step.proofs.run.run.Statement.{statement}
 use Rattle.step.proofs.run.run.Tie as tie
-use Rattle.step.proofs.run.run.Reads as reads
-use Rattle.step.proofs.run.run.Lts as lts
-use Rattle.step.proofs.exec.step.Reads as step-reads
 
 -- the default arm's answers are the refusals
 stops : (a : Answer) → OneOf (1 ∷ 2 ∷ 3 ∷ 4 ∷ 5 ∷ 6 ∷ 7 ∷ 8 ∷ 9 ∷ []) (tagOf the-type a) → goesOn a ≡ false
@@ -44,54 +41,42 @@ Inv-loop budget map cells₀ tags₀ mem₀ marks₀ o₀ n₀ cells tags mem ma
 abbrev μ-loop : tie.MeasureT-loop
 μ-loop budget map cells₀ tags₀ mem₀ marks₀ o₀ n₀ cells tags mem marks o n = budget - n
 
--- src/run.rt:26:5
 loop-holds : tie.Need-loop-holds Inv-loop μ-loop
 loop-holds c = (omega arith, c .before .before .pre .0, c .before .before .pre .1, record { small = λ i. omega (arith, c .before .slice-known .given i) }, refl, refl, let e : c .before .before .args .budget - 0 ≡ c .before .before .args .budget = omega arith in rw e)
 
--- src/run.rt:27:13
 step-requires : tie.Need-step-requires Inv-loop μ-loop
 step-requires c κs = (c .before .before .before .before .before .loop .inv .1, c .before .before .before .before .before .loop .inv .2)
 
--- src/run.rt:31:17
 enum-told : tie.Need-enum-told Inv-loop μ-loop
 enum-told c = search needs
 
--- src/run.rt:32:17
 add-n : tie.Need-add-n Inv-loop μ-loop
 add-n c = omega arith
 
--- src/run.rt:26:5
 loop-less : tie.Need-loop-less Inv-loop μ-loop
 loop-less c = omega arith
 
--- src/run.rt:26:5
 loop-again : tie.Need-loop-again Inv-loop μ-loop
 loop-again c = let t = ap goesOn (c .before .enum-told .given .1) in
     let k = c .before .before .before .before .before .before .before .step .kept .1 .1 .1 .1 in
     let f = on-well-formed (now (c .before .before .before .before .before .before .before .before .before .before .before .before .before .before .before .before .args .map)) (c .before .before .before .before .before .before .before .before .before .before .before .before .before .loop .o) (both (c .before .before .before .before .before .before .before .before .before .before .before .before .before .loop .cells) (c .before .before .before .before .before .before .before .before .before .before .before .before .before .loop .tags)) (both (c .before .before .before .before .before .before .before .before .before .before .before .before .before .loop .mem) (c .before .before .before .before .before .before .before .before .before .before .before .before .before .loop .marks)) (c .before .before .before .before .before .before .before .step .result) (c .before .before .before .before .before .before .before .step .ensures) t (c .before .before .before .before .before .before .before .before .before .before .before .before .before .loop .inv .2) (c .before .before .before .before .before .before .before .before .before .before .before .before .before .loop .inv .3) in
     (omega arith, still-ready (c .before .before .before .before .before .before .before .before .before .before .before .before .before .loop .inv .1) (k .0) (k .1 .0), f .0, f .1, k .0 ∙ c .before .before .before .before .before .before .before .before .before .before .before .before .before .loop .inv .4, k .1 .0 ∙ c .before .before .before .before .before .before .before .before .before .before .before .before .before .loop .inv .5, run-on (c .before .before .before .before .before .before .before .before .before .before .before .before .before .before .before .before .args .budget) (c .before .before .before .before .before .before .before .before .before .before .before .before .before .loop .n) (now (c .before .before .before .before .before .before .before .before .before .before .before .before .before .before .before .before .args .map)) (c .before .before .before .before .before .before .before .before .before .before .before .before .before .loop .o) (both (c .before .before .before .before .before .before .before .before .before .before .before .before .before .loop .cells) (c .before .before .before .before .before .before .before .before .before .before .before .before .before .loop .tags)) (both (c .before .before .before .before .before .before .before .before .before .before .before .before .before .loop .mem) (c .before .before .before .before .before .before .before .before .before .before .before .before .before .loop .marks)) (c .before .before .before .before .before .before .before .step .result) (omega arith) t (c .before .before .before .before .before .before .before .step .ensures) ∙ c .before .before .before .before .before .before .before .before .before .before .before .before .before .loop .inv .6)
 
--- src/run.rt:34:18
 same-length : tie.Need-same-length Inv-loop μ-loop
 same-length c = c .before .before .before .before .before .step .kept .1 .1 .1 .1 .0 ∙ c .before .before .before .before .before .before .before .before .before .before .before .loop .inv .4
 
--- src/run.rt:34:18
 same-length-2 : tie.Need-same-length-2 Inv-loop μ-loop
 same-length-2 c = c .before .before .before .before .before .step .kept .1 .1 .1 .1 .1 .0 ∙ c .before .before .before .before .before .before .before .before .before .before .before .loop .inv .5
 
--- src/run.rt:34:18
 returns : tie.Need-returns Inv-loop μ-loop
 returns c = run-stop (c .before .before .before .before .before .before .before .before .before .before .before .before .before .before .args .budget) (c .before .before .before .before .before .before .before .before .before .before .before .loop .n) (now (c .before .before .before .before .before .before .before .before .before .before .before .before .before .before .args .map)) (c .before .before .before .before .before .before .before .before .before .before .before .loop .o) (both (c .before .before .before .before .before .before .before .before .before .before .before .loop .cells) (c .before .before .before .before .before .before .before .before .before .before .before .loop .tags)) (both (c .before .before .before .before .before .before .before .before .before .before .before .loop .mem) (c .before .before .before .before .before .before .before .before .before .before .before .loop .marks)) (c .before .before .before .before .before .step .result) (omega arith) (stops (c .before .before .before .before .before .step .result .answer) (c .match .keys2)) (c .before .before .before .before .before .step .ensures) ∙ c .before .before .before .before .before .before .before .before .before .before .before .loop .inv .6
 
--- src/run.rt:12:1
 same-length-3 : tie.Need-same-length-3 Inv-loop μ-loop
 same-length-3 c = c .before .loop .inv .4
 
--- src/run.rt:12:1
 same-length-4 : tie.Need-same-length-4 Inv-loop μ-loop
 same-length-4 c = c .before .loop .inv .5
 
--- src/run.rt:12:1
 returns-2 : tie.Need-returns-2 Inv-loop μ-loop
 returns-2 c = run-end (c .before .before .before .before .args .budget) (c .before .loop .n) (now (c .before .before .before .before .args .map)) (c .before .loop .o) (both (c .before .loop .cells) (c .before .loop .tags)) (both (c .before .loop .mem) (c .before .loop .marks)) (omega arith) ∙ c .before .loop .inv .6
 

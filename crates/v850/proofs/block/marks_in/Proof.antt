@@ -7,9 +7,6 @@ use Rattle.v850.specs.Block.{bitsFrom}
 use Rattle.v850.proofs.Fill.{Filled, filled-none, filled-next, bits-more, filled-part, six-stored}
 use Rattle.v850.proofs.block.marks_in.Statement.{statement}
 use Rattle.v850.proofs.block.marks_in.Tie as tie
-use Rattle.v850.proofs.block.marks_in.Reads as reads
-use Rattle.v850.proofs.block.marks_in.Lts as lts
-use Rattle.v850.proofs.block.byte.Reads as byte-reads
 
 abbrev Inv-loop : tie.InvT-loop
 Inv-loop ws regs marks tags₀ i₀ tags i = Filled (bitsFrom regs 0) 38 32 i tags
@@ -17,112 +14,85 @@ Inv-loop ws regs marks tags₀ i₀ tags i = Filled (bitsFrom regs 0) 38 32 i ta
 abbrev μ-loop : tie.MeasureT-loop
 μ-loop ws regs marks tags₀ i₀ tags i = 32 - i
 
--- src/block.rt:163:16
 element-copy-out-regs : tie.Need-element-copy-out-regs Inv-loop μ-loop
 element-copy-out-regs c = search needs
 
--- src/block.rt:164:17
 element-copy-out-marks : tie.Need-element-copy-out-marks Inv-loop μ-loop
 element-copy-out-marks c = search needs
 
--- src/block.rt:167:5
 loop-holds : tie.Need-loop-holds Inv-loop μ-loop
 unfolding bitsFrom
 loop-holds c = filled-none (bitsFrom (getD (c .before .before .args .ws .now) 41 0) 0) 38 32 _ refl refl
 
--- src/block.rt:168:29
 cast-tags : tie.Need-cast-tags Inv-loop μ-loop
 cast-tags c = search needs
 
--- src/block.rt:168:21
 shr-tags : tie.Need-shr-tags Inv-loop μ-loop
 shr-tags c = search needs
 
--- src/block.rt:168:19
 cast-tags-2 : tie.Need-cast-tags-2 Inv-loop μ-loop
 cast-tags-2 c = search needs
 
--- src/block.rt:168:9
 array-write-tags : tie.Need-array-write-tags Inv-loop μ-loop
 array-write-tags c = search needs
 
--- src/block.rt:169:9
 add-i : tie.Need-add-i Inv-loop μ-loop
 add-i c = search needs
 
--- src/block.rt:167:5
 loop-less : tie.Need-loop-less Inv-loop μ-loop
 loop-less c = search needs
 
--- src/block.rt:167:5
 loop-again : tie.Need-loop-again Inv-loop μ-loop
 loop-again c = filled-next (bitsFrom (getD (c .before .before .before .before .args .ws .now) 41 0) 0) 38 32 (c .before .loop .i) _ _ (c .before .loop .tags) (omega arith) (omega arith) (bits-more (getD (c .before .before .before .before .args .ws .now) 41 0) 0 (c .before .loop .i)) (ap (λ (k : ℕ). getD (c .before .before .before .before .args .ws .now) 41 0 / 2 ^ k % 2) (omega arith)) (c .before .loop .inv)
 
--- src/block.rt:171:24
 byte-requires : tie.Need-byte-requires Inv-loop μ-loop
 byte-requires c κs = search needs
 
--- src/block.rt:171:23
 cast-tags-3 : tie.Need-cast-tags-3 Inv-loop μ-loop
 cast-tags-3 c = search needs
 
--- src/block.rt:171:5
 array-write-tags-2 : tie.Need-array-write-tags-2 Inv-loop μ-loop
 array-write-tags-2 c = search needs
 
--- src/block.rt:172:24
 byte-requires-2 : tie.Need-byte-requires-2 Inv-loop μ-loop
 byte-requires-2 c κs = search needs
 
--- src/block.rt:172:24
 cast-tags-4 : tie.Need-cast-tags-4 Inv-loop μ-loop
 cast-tags-4 c = search needs
 
--- src/block.rt:172:5
 array-write-tags-3 : tie.Need-array-write-tags-3 Inv-loop μ-loop
 array-write-tags-3 c = search needs
 
--- src/block.rt:173:24
 byte-requires-3 : tie.Need-byte-requires-3 Inv-loop μ-loop
 byte-requires-3 c κs = search needs
 
--- src/block.rt:173:23
 cast-tags-5 : tie.Need-cast-tags-5 Inv-loop μ-loop
 cast-tags-5 c = search needs
 
--- src/block.rt:173:5
 array-write-tags-4 : tie.Need-array-write-tags-4 Inv-loop μ-loop
 array-write-tags-4 c = search needs
 
--- src/block.rt:174:24
 byte-requires-4 : tie.Need-byte-requires-4 Inv-loop μ-loop
 byte-requires-4 c κs = search needs
 
--- src/block.rt:174:24
 cast-tags-6 : tie.Need-cast-tags-6 Inv-loop μ-loop
 cast-tags-6 c = search needs
 
--- src/block.rt:174:5
 array-write-tags-5 : tie.Need-array-write-tags-5 Inv-loop μ-loop
 array-write-tags-5 c = search needs
 
--- src/block.rt:175:5
 array-write-tags-6 : tie.Need-array-write-tags-6 Inv-loop μ-loop
 array-write-tags-6 c = search needs
 
--- src/block.rt:176:23
 byte-requires-5 : tie.Need-byte-requires-5 Inv-loop μ-loop
 byte-requires-5 c κs = search needs
 
--- src/block.rt:176:22
 cast-tags-7 : tie.Need-cast-tags-7 Inv-loop μ-loop
 cast-tags-7 c = search needs
 
--- src/block.rt:176:5
 array-write-tags-7 : tie.Need-array-write-tags-7 Inv-loop μ-loop
 array-write-tags-7 c = search needs
 
--- src/block.rt:160:1
 returns : tie.Need-returns Inv-loop μ-loop
 returns c = rw (c .before .before .before .before .byte .ensures, c .before .before .before .byte2 .ensures, c .before .before .byte3 .ensures, c .before .byte4 .ensures, c .byte5 .ensures) (six-stored (c .before .before .before .before .before .before .loop .tags) _ _ _ _ _ _ _ (c .before .before .before .before .before .before .loop .inv .long) (filled-part (bitsFrom (getD (c .before .before .before .before .before .before .before .before .before .args .ws .now) 41 0) 0) 38 32 (c .before .before .before .before .before .before .loop .i) (c .before .before .before .before .before .before .loop .tags) (c .before .before .before .before .before .loop-test .left) (c .before .before .before .before .before .before .loop .inv)))
 

@@ -7,8 +7,6 @@ use lib.ListN.{take}
 use Rattle.v850.proofs.Fill.{Filled, filled-none, filled-next, filled-part, take-more, stored-all, six-stored}
 use Rattle.v850.proofs.block.nums_in.Statement.{statement}
 use Rattle.v850.proofs.block.nums_in.Tie as tie
-use Rattle.v850.proofs.block.nums_in.Reads as reads
-use Rattle.v850.proofs.block.nums_in.Lts as lts
 
 abbrev Inv-loop : tie.InvT-loop
 Inv-loop ws cells₀ i₀ cells i = Filled (λ n. take n ws) 38 32 i cells
@@ -16,83 +14,63 @@ Inv-loop ws cells₀ i₀ cells i = Filled (λ n. take n ws) 38 32 i cells
 abbrev μ-loop : tie.MeasureT-loop
 μ-loop ws cells₀ i₀ cells i = 32 - i
 
--- src/block.rt:146:5
 loop-holds : tie.Need-loop-holds Inv-loop μ-loop
 loop-holds c = filled-none (λ n. take n (c .args .ws .now)) 38 32 _ refl refl
 
--- src/block.rt:147:20
 mul-cells : tie.Need-mul-cells Inv-loop μ-loop
 mul-cells c = search needs
 
--- src/block.rt:147:20
 element-copy-out-cells : tie.Need-element-copy-out-cells Inv-loop μ-loop
 element-copy-out-cells c = search needs
 
--- src/block.rt:147:9
 mul-cells-2 : tie.Need-mul-cells-2 Inv-loop μ-loop
 mul-cells-2 c = search needs
 
--- src/block.rt:147:9
 array-write-cells : tie.Need-array-write-cells Inv-loop μ-loop
 array-write-cells c = search needs
 
--- src/block.rt:148:9
 add-i : tie.Need-add-i Inv-loop μ-loop
 add-i c = search needs
 
--- src/block.rt:146:5
 loop-less : tie.Need-loop-less Inv-loop μ-loop
 loop-less c = search needs
 
--- src/block.rt:146:5
 loop-again : tie.Need-loop-again Inv-loop μ-loop
 loop-again c = filled-next (λ n. take n (c .before .before .before .args .ws .now)) 38 32 (c .before .before .loop .i) _ _ (c .before .before .loop .cells) (omega arith) (omega arith) (take-more (c .before .before .before .args .ws .now) (c .before .before .loop .i) (omega arith)) refl (c .before .before .loop .inv)
 
--- src/block.rt:150:24
 element-copy-out-cells-2 : tie.Need-element-copy-out-cells-2 Inv-loop μ-loop
 element-copy-out-cells-2 c = search needs
 
--- src/block.rt:150:5
 array-write-cells-2 : tie.Need-array-write-cells-2 Inv-loop μ-loop
 array-write-cells-2 c = search needs
 
--- src/block.rt:151:25
 element-copy-out-cells-3 : tie.Need-element-copy-out-cells-3 Inv-loop μ-loop
 element-copy-out-cells-3 c = search needs
 
--- src/block.rt:151:5
 array-write-cells-3 : tie.Need-array-write-cells-3 Inv-loop μ-loop
 array-write-cells-3 c = search needs
 
--- src/block.rt:152:24
 element-copy-out-cells-4 : tie.Need-element-copy-out-cells-4 Inv-loop μ-loop
 element-copy-out-cells-4 c = search needs
 
--- src/block.rt:152:5
 array-write-cells-4 : tie.Need-array-write-cells-4 Inv-loop μ-loop
 array-write-cells-4 c = search needs
 
--- src/block.rt:153:25
 element-copy-out-cells-5 : tie.Need-element-copy-out-cells-5 Inv-loop μ-loop
 element-copy-out-cells-5 c = search needs
 
--- src/block.rt:153:5
 array-write-cells-5 : tie.Need-array-write-cells-5 Inv-loop μ-loop
 array-write-cells-5 c = search needs
 
--- src/block.rt:154:5
 array-write-cells-6 : tie.Need-array-write-cells-6 Inv-loop μ-loop
 array-write-cells-6 c = search needs
 
--- src/block.rt:155:23
 element-copy-out-cells-6 : tie.Need-element-copy-out-cells-6 Inv-loop μ-loop
 element-copy-out-cells-6 c = search needs
 
--- src/block.rt:155:5
 array-write-cells-7 : tie.Need-array-write-cells-7 Inv-loop μ-loop
 array-write-cells-7 c = search needs
 
--- src/block.rt:141:1
 returns : tie.Need-returns Inv-loop μ-loop
 returns c = six-stored (c .before .before .before .before .before .before .loop .cells) _ _ _ _ _ _ _ (c .before .before .before .before .before .before .loop .inv .long) (filled-part (λ n. take n (c .before .before .before .before .before .before .before .args .ws .now)) 38 32 (c .before .before .before .before .before .before .loop .i) (c .before .before .before .before .before .before .loop .cells) (c .before .before .before .before .before .loop-test .left) (c .before .before .before .before .before .before .loop .inv))
 

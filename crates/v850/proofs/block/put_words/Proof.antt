@@ -8,9 +8,6 @@ use Rattle.v850.specs.Block.{bytesOf}
 use Rattle.v850.proofs.Fill.{bytes-turn, bytes-done}
 use Rattle.v850.proofs.block.put_words.Statement.{statement}
 use Rattle.v850.proofs.block.put_words.Tie as tie
-use Rattle.v850.proofs.block.put_words.Reads as reads
-use Rattle.v850.proofs.block.put_words.Lts as lts
-use Rattle.v850.proofs.block.put_word.Reads as put-word-reads
 
 abbrev Inv-loop : tie.InvT-loop
 Inv-loop block₀ ws i₀ block i = (i ≤ 59) × (length block ≡ 236) × (block ≡ bytesOf (take i ws) ++ drop (4 * i) block₀)
@@ -18,40 +15,31 @@ Inv-loop block₀ ws i₀ block i = (i ≤ 59) × (length block ≡ 236) × (blo
 abbrev μ-loop : tie.MeasureT-loop
 μ-loop block₀ ws i₀ block i = 59 - i
 
--- src/block.rt:262:5
 loop-holds : tie.Need-loop-holds Inv-loop μ-loop
 unfolding bytesOf
 loop-holds c = (omega arith, c .before .pre .0, refl)
 
--- src/block.rt:263:28
 mul-put-word : tie.Need-mul-put-word Inv-loop μ-loop
 mul-put-word c = search needs
 
--- src/block.rt:263:28
 element-copy-out-put-word : tie.Need-element-copy-out-put-word Inv-loop μ-loop
 element-copy-out-put-word c = search needs
 
--- src/block.rt:263:9
 put-word-requires : tie.Need-put-word-requires Inv-loop μ-loop
 put-word-requires c κs = omega arith
 
--- src/block.rt:264:9
 add-i : tie.Need-add-i Inv-loop μ-loop
 add-i c = search needs
 
--- src/block.rt:262:5
 loop-less : tie.Need-loop-less Inv-loop μ-loop
 loop-less c = search needs
 
--- src/block.rt:262:5
 loop-again : tie.Need-loop-again Inv-loop μ-loop
 loop-again c = (omega arith, c .before .before .put-word .kept .0 ∙ c .before .before .before .before .before .before .loop .inv .1, bytes-turn (c .before .before .before .before .before .before .before .before .args .ws .now) (c .before .before .before .before .before .before .before .before .args .block .now) (c .before .before .before .before .before .before .loop .block) _ (c .before .before .before .before .before .before .loop .i) (omega arith) (c .before .before .before .before .before .before .loop .inv .2) (c .before .before .put-word .ensures))
 
--- src/block.rt:257:1
 same-length : tie.Need-same-length Inv-loop μ-loop
 same-length c = omega arith
 
--- src/block.rt:257:1
 returns : tie.Need-returns Inv-loop μ-loop
 returns c = bytes-done (c .before .before .before .args .ws .now) (c .before .before .before .args .block .now) (c .before .loop .block) (c .before .loop .i) (omega arith) (omega arith) (c .before .loop .inv .2)
 

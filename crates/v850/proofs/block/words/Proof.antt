@@ -6,9 +6,6 @@ use Rattle.v850.specs.Block.{wordAt, wordsFrom}
 use Rattle.v850.proofs.Fill.{Filled, filled-none, filled-next, filled-all, words-more}
 use Rattle.v850.proofs.block.words.Statement.{statement}
 use Rattle.v850.proofs.block.words.Tie as tie
-use Rattle.v850.proofs.block.words.Reads as reads
-use Rattle.v850.proofs.block.words.Lts as lts
-use Rattle.v850.proofs.block.word_at.Reads as word-at-reads
 
 abbrev Inv-loop : tie.InvT-loop
 Inv-loop block ws₀ i₀ ws i = Filled (wordsFrom block 0) 59 59 i ws
@@ -16,36 +13,28 @@ Inv-loop block ws₀ i₀ ws i = Filled (wordsFrom block 0) 59 59 i ws
 abbrev μ-loop : tie.MeasureT-loop
 μ-loop block ws₀ i₀ ws i = 59 - i
 
--- src/block.rt:71:5
 loop-holds : tie.Need-loop-holds Inv-loop μ-loop
 unfolding wordsFrom
 loop-holds c = filled-none (wordsFrom (c .before .args .block .now) 0) 59 59 _ refl refl
 
--- src/block.rt:72:17
 word-at-requires : tie.Need-word-at-requires Inv-loop μ-loop
 word-at-requires c κs = search needs
 
--- src/block.rt:72:9
 mul-ws : tie.Need-mul-ws Inv-loop μ-loop
 mul-ws c = search needs
 
--- src/block.rt:72:9
 array-write-ws : tie.Need-array-write-ws Inv-loop μ-loop
 array-write-ws c = search needs
 
--- src/block.rt:73:9
 add-i : tie.Need-add-i Inv-loop μ-loop
 add-i c = search needs
 
--- src/block.rt:71:5
 loop-less : tie.Need-loop-less Inv-loop μ-loop
 loop-less c = search needs
 
--- src/block.rt:71:5
 loop-again : tie.Need-loop-again Inv-loop μ-loop
 loop-again c = filled-next (wordsFrom (c .before .before .before .before .args .block .now) 0) 59 59 (c .before .before .loop .i) _ (wordAt (c .before .before .before .before .args .block .now) (0 + c .before .before .loop .i)) (c .before .before .loop .ws) (omega arith) (omega arith) (words-more (c .before .before .before .before .args .block .now) 0 (c .before .before .loop .i)) (c .word-at .ensures ∙ ap (wordAt (c .before .before .before .before .args .block .now)) (omega arith)) (c .before .before .loop .inv)
 
--- src/block.rt:65:1
 returns : tie.Need-returns Inv-loop μ-loop
 returns c = filled-all (wordsFrom (c .before .before .before .args .block .now) 0) 59 (c .before .loop .i) (c .before .loop .ws) (c .loop-test .left) (c .before .loop .inv)
 

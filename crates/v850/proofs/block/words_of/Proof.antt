@@ -7,11 +7,6 @@ use Rattle.v850.specs.BlockLaws.{formed-marks}
 use Rattle.v850.proofs.Fill.{Filled, filled-none, filled-next, filled-part, take-more, eleven-stored, Mapped, mapped-none, mapped-next, mapped-all}
 use Rattle.v850.proofs.block.words_of.Statement.{statement}
 use Rattle.v850.proofs.block.words_of.Tie as tie
-use Rattle.v850.proofs.block.words_of.Reads as reads
-use Rattle.v850.proofs.block.words_of.Lts as lts
-use Rattle.v850.proofs.block.psw.Reads as psw-reads
-use Rattle.v850.proofs.block.reg_marks.Reads as reg-marks-reads
-use Rattle.v850.proofs.block.sys_marks.Reads as sys-marks-reads
 
 abbrev Inv-loop : tie.InvT-loop
 Inv-loop o cells tags map ws₀ i₀ ws i = Filled (λ n. take n cells) 59 32 i ws
@@ -25,155 +20,117 @@ Inv-loop2 cells tags map ws₀ i k₀ ws k = Mapped ws₀ map k ws
 abbrev μ-loop2 : tie.MeasureT-loop2
 μ-loop2 cells tags map ws₀ i k₀ ws k = 16 - k
 
--- src/block.rt:223:5
 loop-holds : tie.Need-loop-holds Inv-loop μ-loop Inv-loop2 μ-loop2
 loop-holds c = filled-none (λ n. take n (c .args .cells .now)) 59 32 _ refl refl
 
--- src/block.rt:224:17
 mul-ws : tie.Need-mul-ws Inv-loop μ-loop Inv-loop2 μ-loop2
 mul-ws c = search needs
 
--- src/block.rt:224:17
 element-copy-out-ws : tie.Need-element-copy-out-ws Inv-loop μ-loop Inv-loop2 μ-loop2
 element-copy-out-ws c = search needs
 
--- src/block.rt:224:9
 mul-ws-2 : tie.Need-mul-ws-2 Inv-loop μ-loop Inv-loop2 μ-loop2
 mul-ws-2 c = search needs
 
--- src/block.rt:224:9
 array-write-ws : tie.Need-array-write-ws Inv-loop μ-loop Inv-loop2 μ-loop2
 array-write-ws c = search needs
 
--- src/block.rt:225:9
 add-i : tie.Need-add-i Inv-loop μ-loop Inv-loop2 μ-loop2
 add-i c = search needs
 
--- src/block.rt:223:5
 loop-less : tie.Need-loop-less Inv-loop μ-loop Inv-loop2 μ-loop2
 loop-less c = search needs
 
--- src/block.rt:223:5
 loop-again : tie.Need-loop-again Inv-loop μ-loop Inv-loop2 μ-loop2
 loop-again c = filled-next (λ n. take n (c .before .before .before .args .cells .now)) 59 32 (c .before .before .loop .i) _ _ (c .before .before .loop .ws) (omega arith) (omega arith) (take-more (c .before .before .before .args .cells .now) (c .before .before .loop .i) (omega (arith, c .before .before .before .pre .0 .nums))) refl (c .before .before .loop .inv)
 
--- src/block.rt:227:5
 array-write-ws-2 : tie.Need-array-write-ws-2 Inv-loop μ-loop Inv-loop2 μ-loop2
 array-write-ws-2 c = search needs
 
--- src/block.rt:228:15
 psw-requires : tie.Need-psw-requires Inv-loop μ-loop Inv-loop2 μ-loop2
 psw-requires c κs = search needs
 
--- src/block.rt:228:5
 array-write-ws-3 : tie.Need-array-write-ws-3 Inv-loop μ-loop Inv-loop2 μ-loop2
 array-write-ws-3 c = search needs
 
--- src/block.rt:229:16
 element-copy-out-ws-2 : tie.Need-element-copy-out-ws-2 Inv-loop μ-loop Inv-loop2 μ-loop2
 element-copy-out-ws-2 c = search needs
 
--- src/block.rt:229:5
 array-write-ws-4 : tie.Need-array-write-ws-4 Inv-loop μ-loop Inv-loop2 μ-loop2
 array-write-ws-4 c = search needs
 
--- src/block.rt:230:17
 element-copy-out-ws-3 : tie.Need-element-copy-out-ws-3 Inv-loop μ-loop Inv-loop2 μ-loop2
 element-copy-out-ws-3 c = search needs
 
--- src/block.rt:230:5
 array-write-ws-5 : tie.Need-array-write-ws-5 Inv-loop μ-loop Inv-loop2 μ-loop2
 array-write-ws-5 c = search needs
 
--- src/block.rt:231:16
 element-copy-out-ws-4 : tie.Need-element-copy-out-ws-4 Inv-loop μ-loop Inv-loop2 μ-loop2
 element-copy-out-ws-4 c = search needs
 
--- src/block.rt:231:5
 array-write-ws-6 : tie.Need-array-write-ws-6 Inv-loop μ-loop Inv-loop2 μ-loop2
 array-write-ws-6 c = search needs
 
--- src/block.rt:232:17
 element-copy-out-ws-5 : tie.Need-element-copy-out-ws-5 Inv-loop μ-loop Inv-loop2 μ-loop2
 element-copy-out-ws-5 c = search needs
 
--- src/block.rt:232:5
 array-write-ws-7 : tie.Need-array-write-ws-7 Inv-loop μ-loop Inv-loop2 μ-loop2
 array-write-ws-7 c = search needs
 
--- src/block.rt:233:5
 array-write-ws-8 : tie.Need-array-write-ws-8 Inv-loop μ-loop Inv-loop2 μ-loop2
 array-write-ws-8 c = search needs
 
--- src/block.rt:234:5
 array-write-ws-9 : tie.Need-array-write-ws-9 Inv-loop μ-loop Inv-loop2 μ-loop2
 array-write-ws-9 c = search needs
 
--- src/block.rt:235:28
 mul-ws-3 : tie.Need-mul-ws-3 Inv-loop μ-loop Inv-loop2 μ-loop2
 mul-ws-3 c = search needs
 
--- src/block.rt:235:17
 add-ws : tie.Need-add-ws Inv-loop μ-loop Inv-loop2 μ-loop2
 add-ws c = search needs
 
--- src/block.rt:235:5
 array-write-ws-10 : tie.Need-array-write-ws-10 Inv-loop μ-loop Inv-loop2 μ-loop2
 array-write-ws-10 c = search needs
 
--- src/block.rt:236:21
 reg-marks-requires : tie.Need-reg-marks-requires Inv-loop μ-loop Inv-loop2 μ-loop2
 reg-marks-requires c κs = formed-marks (c .before .before .before .before .before .before .before .before .before .pre .0)
 
--- src/block.rt:236:5
 array-write-ws-11 : tie.Need-array-write-ws-11 Inv-loop μ-loop Inv-loop2 μ-loop2
 array-write-ws-11 c = search needs
 
--- src/block.rt:237:21
 sys-marks-requires : tie.Need-sys-marks-requires Inv-loop μ-loop Inv-loop2 μ-loop2
 sys-marks-requires c κs = formed-marks (c .before .before .before .before .before .before .before .before .before .before .pre .0)
 
--- src/block.rt:237:5
 array-write-ws-12 : tie.Need-array-write-ws-12 Inv-loop μ-loop Inv-loop2 μ-loop2
 array-write-ws-12 c = search needs
 
--- src/block.rt:239:5
 loop2-holds : tie.Need-loop2-holds Inv-loop μ-loop Inv-loop2 μ-loop2
 loop2-holds c = mapped-none _ (c .before .before .before .before .before .before .before .before .before .before .before .args .map .now) (simp length-set (c .before .before .before .before .before .before .before .before .before .before .loop .inv .long))
 
--- src/block.rt:240:23
 mul-ws-4 : tie.Need-mul-ws-4 Inv-loop μ-loop Inv-loop2 μ-loop2
 mul-ws-4 c = search needs
 
--- src/block.rt:240:23
 element-copy-out-ws-6 : tie.Need-element-copy-out-ws-6 Inv-loop μ-loop Inv-loop2 μ-loop2
 element-copy-out-ws-6 c = search needs
 
--- src/block.rt:240:12
 add-ws-2 : tie.Need-add-ws-2 Inv-loop μ-loop Inv-loop2 μ-loop2
 add-ws-2 c = search needs
 
--- src/block.rt:240:9
 mul-ws-5 : tie.Need-mul-ws-5 Inv-loop μ-loop Inv-loop2 μ-loop2
 mul-ws-5 c = search needs
 
--- src/block.rt:240:9
 array-write-ws-13 : tie.Need-array-write-ws-13 Inv-loop μ-loop Inv-loop2 μ-loop2
 array-write-ws-13 c = search needs
 
--- src/block.rt:241:9
 add-k : tie.Need-add-k Inv-loop μ-loop Inv-loop2 μ-loop2
 add-k c = search needs
 
--- src/block.rt:239:5
 loop2-less : tie.Need-loop2-less Inv-loop μ-loop Inv-loop2 μ-loop2
 loop2-less c = search needs
 
--- src/block.rt:239:5
 loop2-again : tie.Need-loop2-again Inv-loop μ-loop Inv-loop2 μ-loop2
 loop2-again c = mapped-next (c .before .before .before .before .before .before .before .before .before .before .before .before .before .before .args .map .now) (c .before .before .loop2 .k) (omega arith) (c .before .before .before .before .before .before .before .before .before .before .before .before .before .before .pre .1) (c .before .before .loop2 .inv)
 
--- src/block.rt:217:1
 returns : tie.Need-returns Inv-loop μ-loop Inv-loop2 μ-loop2
 returns c = mapped-all (c .before .before .before .before .before .before .before .before .before .before .before .before .before .args .map .now) (c .before .loop2 .k) (c .loop2-test .left) (c .before .loop2 .inv) ∙ eleven-stored (c .before .before .before .before .before .before .before .before .before .before .before .before .loop .ws) _ (c .before .before .before .before .before .before .before .before .before .before .before .before .before .args .map .now) _ _ _ _ _ _ _ _ _ _ _ _ _ _ (c .before .before .before .before .before .before .before .before .before .before .before .before .loop .inv .long) (c .before .before .before .before .before .before .before .before .before .before .before .before .before .pre .1) (filled-part (λ n. take n (c .before .before .before .before .before .before .before .before .before .before .before .before .before .args .cells .now)) 59 32 (c .before .before .before .before .before .before .before .before .before .before .before .before .loop .i) (c .before .before .before .before .before .before .before .before .before .before .before .before .loop .ws) (c .before .before .before .before .before .before .before .before .before .before .before .loop-test .left) (c .before .before .before .before .before .before .before .before .before .before .before .before .loop .inv)) (c .before .before .before .before .before .before .before .before .before .before .psw .ensures (c .before .before .before .before .before .before .before .before .before .before .before .before .before .args .tags .now)) (c .before .before .before .reg-marks .ensures) (c .before .before .sys-marks .ensures)
 

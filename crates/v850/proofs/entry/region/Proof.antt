@@ -10,123 +10,88 @@ use Rattle.v850.specs.Block.{mapIn}
 use Rattle.v850.specs.EntryLaws.{region-fits, handed-by, view-given, view-none}
 use Rattle.v850.proofs.entry.region.Statement.{statement}
 use Rattle.v850.proofs.entry.region.Tie as tie
-use Rattle.v850.proofs.entry.region.Reads as reads
-use Rattle.v850.proofs.entry.region.Lts as lts
-use Rattle.state.proofs.map_check.good_map.Reads as good-map-reads
-use Rattle.state.proofs.regions.offset.Reads as offset-reads
-use Rattle.state.proofs.regions.size.Reads as size-reads
-use Rattle.v850.proofs.block.map_in.Reads as map-in-reads
-use Rattle.v850.proofs.block.words.Reads as words-reads
 
--- src/entry.rt:47:16
 sub-result : tie.Need-sub-result
 sub-result c = search needs
 
--- src/entry.rt:47:16
 part-memory-start : tie.Need-part-memory-start
 part-memory-start c = search needs
 
--- src/entry.rt:47:16
 part-memory-end : tie.Need-part-memory-end
 part-memory-end c = search needs
 
--- src/entry.rt:47:9
 returns : tie.Need-returns
 returns c = view-none (c .before .before .before .before .args .block .now) (c .before .before .before .before .args .memory .now) (c .before .before .before .before .args .k) (c .before .before .before .before .args .memory .ptr) (handed-by (c .before .before .before .before .args .block .now) (c .before .before .before .before .args .memory .now) (c .before .before .before .before .args .k) (lt-leb _ _ (c .before .if1 .taken)) refl refl refl)
 
--- src/entry.rt:50:16
 sub-result-2 : tie.Need-sub-result-2
 sub-result-2 c = search needs
 
--- src/entry.rt:50:16
 part-memory-start-2 : tie.Need-part-memory-start-2
 part-memory-start-2 c = search needs
 
--- src/entry.rt:50:16
 part-memory-end-2 : tie.Need-part-memory-end-2
 part-memory-end-2 c = search needs
 
--- src/entry.rt:50:9
 returns-2 : tie.Need-returns-2
 returns-2 c = view-none (c .before .before .before .before .before .args .block .now) (c .before .before .before .before .before .args .memory .now) (c .before .before .before .before .before .args .k) (c .before .before .before .before .before .args .memory .ptr) (handed-by (c .before .before .before .before .before .args .block .now) (c .before .before .before .before .before .args .memory .now) (c .before .before .before .before .before .args .k) (le-leb _ _ (c .before .before .if1 .left)) (ne-eqb _ _ (c .before .if2 .taken)) refl refl)
 
--- src/entry.rt:53:16
 sub-result-3 : tie.Need-sub-result-3
 sub-result-3 c = search needs
 
--- src/entry.rt:53:16
 part-memory-start-3 : tie.Need-part-memory-start-3
 part-memory-start-3 c = search needs
 
--- src/entry.rt:53:16
 part-memory-end-3 : tie.Need-part-memory-end-3
 part-memory-end-3 c = search needs
 
--- src/entry.rt:53:9
 returns-3 : tie.Need-returns-3
 returns-3 c = view-none (c .before .before .before .before .before .before .args .block .now) (c .before .before .before .before .before .before .args .memory .now) (c .before .before .before .before .before .before .args .k) (c .before .before .before .before .before .before .args .memory .ptr) (handed-by (c .before .before .before .before .before .before .args .block .now) (c .before .before .before .before .before .before .args .memory .now) (c .before .before .before .before .before .before .args .k) (le-leb _ _ (c .before .before .before .if1 .left)) (eq-eqb _ _ (c .before .before .if2 .left)) (lt-leb _ _ (c .before .if3 .taken)) refl)
 
--- src/entry.rt:55:14
 words-requires : tie.Need-words-requires
 words-requires c κs = search needs
 
--- src/entry.rt:56:15
 map-in-requires : tie.Need-map-in-requires
 map-in-requires c κs = search needs
 
--- src/entry.rt:57:9
 good-map-requires : tie.Need-good-map-requires
 good-map-requires c κs = search needs
 
--- src/entry.rt:58:16
 sub-result-4 : tie.Need-sub-result-4
 sub-result-4 c = search needs
 
--- src/entry.rt:58:16
 part-memory-start-4 : tie.Need-part-memory-start-4
 part-memory-start-4 c = search needs
 
--- src/entry.rt:58:16
 part-memory-end-4 : tie.Need-part-memory-end-4
 part-memory-end-4 c = search needs
 
--- src/entry.rt:58:9
 returns-4 : tie.Need-returns-4
 returns-4 c = view-none (c .before .before .before .before .before .before .before .before .before .before .before .before .args .block .now) (c .before .before .before .before .before .before .before .before .before .before .before .before .args .memory .now) (c .before .before .before .before .before .before .before .before .before .before .before .before .args .k) (c .before .before .before .before .before .before .before .before .before .before .before .before .args .memory .ptr) (handed-by (c .before .before .before .before .before .before .before .before .before .before .before .before .args .block .now) (c .before .before .before .before .before .before .before .before .before .before .before .before .args .memory .now) (c .before .before .before .before .before .before .before .before .before .before .before .before .args .k) (le-leb _ _ (c .before .before .before .before .before .before .before .before .before .if1 .left)) (eq-eqb _ _ (c .before .before .before .before .before .before .before .before .if2 .left)) (le-leb _ _ (c .before .before .before .before .before .before .before .if3 .left)) (ap (λ (m : List ℕ). goodMap m (length (c .before .before .before .before .before .before .before .before .before .before .before .before .args .memory .now))) (sym (c .before .before .before .before .map-in .ensures ∙ ap mapIn (c .before .before .before .before .before .before .words .ensures))) ∙ sym (c .before .before .good-map .ensures) ∙ not-true _ (c .before .if4 .taken)))
 
--- src/entry.rt:61:16
 offset-requires : tie.Need-offset-requires
 offset-requires c κs = search needs
 
--- src/entry.rt:61:16
 cast-from : tie.Need-cast-from
 cast-from c = search needs
 
--- src/entry.rt:62:21
 size-requires : tie.Need-size-requires
 size-requires c κs = search needs
 
--- src/entry.rt:62:21
 cast-to : tie.Need-cast-to
 cast-to c = search needs
 
--- src/entry.rt:62:14
 add-to : tie.Need-add-to
 add-to c = search needs
 
--- src/entry.rt:63:5
 sub-result-5 : tie.Need-sub-result-5
 sub-result-5 c = search needs
 
--- src/entry.rt:63:5
 part-memory-start-5 : tie.Need-part-memory-start-5
 part-memory-start-5 c = search needs
 
--- src/entry.rt:63:5
 part-memory-end-5 : tie.Need-part-memory-end-5
 part-memory-end-5 c = omega (arith, region-fits (c .before .before .before .before .before .before .before .map-in .result) (length (c .before .before .before .before .before .before .before .before .before .before .before .before .before .before .before .args .memory .now)) (c .before .before .before .before .before .before .before .before .before .before .before .before .before .before .before .args .k) (sym (c .before .before .before .before .before .good-map .ensures) ∙ not-false _ (c .before .before .before .before .if4 .left)) (omega arith), c .before .before .offset .ensures, c .size .ensures)
 
--- src/entry.rt:43:1
 returns-5 : tie.Need-returns-5
 returns-5 c = view-given (c .before .before .before .before .before .before .before .before .before .before .before .before .before .before .before .before .args .block .now) (c .before .before .before .before .before .before .before .before .before .before .before .before .before .before .before .before .args .memory .now) (c .before .before .before .before .before .before .before .before .map-in .result) (c .before .before .before .before .before .before .before .before .before .before .before .before .before .before .before .before .args .k) _ _ (c .before .before .before .before .before .before .before .before .before .before .before .before .before .before .before .before .args .memory .ptr) (handed-by (c .before .before .before .before .before .before .before .before .before .before .before .before .before .before .before .before .args .block .now) (c .before .before .before .before .before .before .before .before .before .before .before .before .before .before .before .before .args .memory .now) (c .before .before .before .before .before .before .before .before .before .before .before .before .before .before .before .before .args .k) (le-leb _ _ (c .before .before .before .before .before .before .before .before .before .before .before .before .before .if1 .left)) (eq-eqb _ _ (c .before .before .before .before .before .before .before .before .before .before .before .before .if2 .left)) (le-leb _ _ (c .before .before .before .before .before .before .before .before .before .before .before .if3 .left)) (ap (λ (m : List ℕ). goodMap m (length (c .before .before .before .before .before .before .before .before .before .before .before .before .before .before .before .before .args .memory .now))) (sym (c .before .before .before .before .before .before .before .before .map-in .ensures ∙ ap mapIn (c .before .before .before .before .before .before .before .before .before .before .words .ensures))) ∙ sym (c .before .before .before .before .before .before .good-map .ensures) ∙ not-false _ (c .before .before .before .before .before .if4 .left))) (c .before .before .before .before .before .before .before .before .map-in .ensures ∙ ap mapIn (c .before .before .before .before .before .before .before .before .before .before .words .ensures)) (c .before .before .before .offset .ensures) (c .before .size .ensures)
 

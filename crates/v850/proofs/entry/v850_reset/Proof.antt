@@ -10,39 +10,26 @@ use Rattle.v850.specs.Block.{bytesOf, wordsOf, mapIn}
 use Rattle.v850.specs.Entry.{reset}
 use Rattle.v850.proofs.entry.v850_reset.Statement.{statement}
 use Rattle.v850.proofs.entry.v850_reset.Tie as tie
-use Rattle.v850.proofs.entry.v850_reset.Reads as reads
-use Rattle.v850.proofs.entry.v850_reset.Lts as lts
-use Rattle.v850.proofs.block.map_in.Reads as map-in-reads
-use Rattle.v850.proofs.block.put_words.Reads as put-words-reads
-use Rattle.v850.proofs.block.words.Reads as words-reads
-use Rattle.v850.proofs.block.words_of.Reads as words-of-reads
 
--- src/entry.rt:18:9
 returns : tie.Need-returns
 unfolding reset
 returns c = rw (ne-eqb (length (c .before .before .args .block .now)) 236 (c .if1 .taken))
 
--- src/entry.rt:20:15
 words-requires : tie.Need-words-requires
 words-requires c κs = search needs
 
--- src/entry.rt:21:15
 map-in-requires : tie.Need-map-in-requires
 map-in-requires c κs = search needs
 
--- src/entry.rt:34:14
 words-of-requires : tie.Need-words-of-requires
 words-of-requires c κs = (reset-well-formed, search needs)
 
--- src/entry.rt:35:5
 put-words-requires : tie.Need-put-words-requires
 put-words-requires c κs = search needs
 
--- src/entry.rt:13:1
 same-length : tie.Need-same-length
 same-length c = search needs
 
--- src/entry.rt:13:1
 returns-2 : tie.Need-returns-2
 unfolding reset
 returns-2 c = rw (eq-eqb (length (c .before .before .before .before .before .before .before .before .before .before .before .before .before .before .before .args .block .now)) 236 (c .before .before .before .before .before .before .before .before .before .before .before .before .before .if1 .left)) (ap (λ (b : List ℕ). record { answer = 0; block = b }) (c .before .before .put-words .ensures ∙ ap bytesOf (c .before .before .before .before .before .words-of .ensures ∙ ap (wordsOf resetOpen resetCells) (c .before .before .before .before .before .before .before .before .before .map-in .ensures ∙ ap mapIn (c .before .before .before .before .before .before .before .before .before .before .before .words .ensures)))))
