@@ -140,7 +140,10 @@ static struct second_insn insn_at(const struct part *p, uint32_t pc)
     if (is_access(op) && !aim(&i)) i = any_insn(one_in(50) ? op : SECOND_OP_XOR, wild);
     if (op == SECOND_OP_BCOND) i.value = way(p, pc, 4, 16);
     if (op == SECOND_OP_JARL) i.value = way(p, pc, 32, 80);
-    if (op == SECOND_OP_MOVEA && one_in(8)) i.reg1 = i.reg2 = any_register(POINTER, wild), i.value = (int32_t)dice(16) - 8;
+    if (op == SECOND_OP_MOVEA && one_in(8)) { /* a pointer moves */
+        i.reg1 = i.reg2 = any_register(POINTER, wild);
+        i.value = (int32_t)dice(16) - 8;
+    }
     return i;
 }
 
@@ -188,7 +191,8 @@ static void fill(const struct part *p)
 static void fit_registers(void)
 {
     for (uint32_t n = 16; n < 20; n++) set_word(s, V850_AT_R(n), dice(one_in(2) ? 8 : 256));
-    for (uint32_t n = 20; n < 32; n++) set_word(s, V850_AT_R(n), n < 26 ? any_place(one_in(2) ? &both : &readable) : any_entry());
+    for (uint32_t n = 20; n < 26; n++) set_word(s, V850_AT_R(n), any_place(one_in(2) ? &both : &readable));
+    for (uint32_t n = 26; n < 32; n++) set_word(s, V850_AT_R(n), any_entry());
     set_word(s, V850_AT_R(30), both.count > 0 ? both.part[dice(both.count)].from + dice(8) : any_address());
     set_word(s, V850_AT_PC, any_entry());
     set_word(s, V850_AT_EIPC, any_entry() | dice(2));

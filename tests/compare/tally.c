@@ -91,10 +91,12 @@ void tally_print(void)
     print_edits(tally.map_edit, MAP_EDITS, SECOND_MAP);
     print_edits(tally.state_edit, STATE_EDITS, SECOND_STATE);
     printf("%9llu different first halfwords\n", (big)tally.words);
-    printf("%9llu steps, the longest run %llu, a program's %llu on average; %llu starts with budget 0, %llu at FFFFFEH,\n"
-           "%9llu without memory, %llu with 65,536 bytes, %llu with mark bytes of 2 to 255; %llu pairs with other secrets\n",
-           (big)tally.steps, (big)tally.longest, (big)(tally.program_steps / (tally.cases[PROGRAM] + 1)), (big)tally.no_budget, (big)tally.at_top, (big)tally.no_memory,
-           (big)tally.full_memory, (big)tally.odd_marks, (big)tally.pairs);
+    printf("%9llu steps, the longest run %llu, a program's %llu on average\n", (big)tally.steps, (big)tally.longest,
+           (big)(tally.program_steps / (tally.cases[PROGRAM] + 1)));
+    printf("%9llu starts with budget 0, %llu at FFFFFEH, %llu without memory, %llu with 65,536 bytes,\n",
+           (big)tally.no_budget, (big)tally.at_top, (big)tally.no_memory, (big)tally.full_memory);
+    printf("%9llu with mark bytes of 2 to 255; %llu pairs with other secrets\n", (big)tally.odd_marks,
+           (big)tally.pairs);
 }
 
 /* ---- Never met -------------------------------------------------------- */

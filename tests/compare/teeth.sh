@@ -36,14 +36,21 @@ build() {
 # The number of the first case that differs, or '-'.
 first_case() { sed -n 's/^DIFFERENCE in case \([0-9]*\) .*/\1/p' "$1" | grep . || echo -; }
 
+beside="the library"
+case $LIBRARY in */target/staticlib/libv850.a) ;; *) beside="a stand-in with the library's entries" ;; esac
+emulated=
+[ -z "$("$X86" runner)" ] || emulated=", under emulation"
 found=0 missed=0 unseen=()
 cat <<END
 # What the comparison finds
 
-The second program with one deliberate fault at a time (\`tests/second/FAULTS.md\`), beside the library. "Found in case" is
-the first case of seed 1 in which answer or bytes differ; the seconds are those of the run up to there$([ -z "$("$X86" runner)" ] || echo ", under emulation"). The last column
-is another test: the faulty program beside itself with other secrets, $secret_cases cases, and the first in which a secret shows. Most
-faults let no secret out, and have a dash there. \`make teeth\` prints this page.
+The second program with one deliberate fault at a time (\`tests/second/FAULTS.md\`), beside $beside.
+
+- "Found in case" is the first case of seed 1 in which the answer or a byte differs; the seconds are those of the run up to there$emulated.
+- The last column is another test: the faulty program beside itself with other secrets, $secret_cases cases, and the first in which a
+  secret shows. Most faults let no secret out, and have a dash there.
+
+\`make -s teeth >docs/FAULTS-FOUND.md\` writes this page.
 
 END
 echo "| Fault | What is wrong | Found in case | Seconds | Other secrets show in case |"
