@@ -10,7 +10,8 @@ use libc::STDOUT_FILENO;
 // One byte more than an image has, so that a longer input is told from a full one.
 const ROOM: usize = 4097;
 
-pub enum Input {
+// How many bytes were read, or that they could not be.
+enum Input {
     Read(usize),
     Failed,
 }

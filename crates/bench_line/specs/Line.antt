@@ -23,7 +23,7 @@ BUDGET = 1000
 abbrev pub padded : List ℕ → List ℕ
 padded input = input ++ replicate (IMAGE - length input) 0
 
--- The map: all of the memory at address 0 with all rights, as base, length, offset and rights; and three unused regions
+-- The map: a region of base 0, all of the memory, offset 0 and all rights; and three unused ones
 abbrev pub wholeMap : List ℕ
 wholeMap = 0 ∷ IMAGE ∷ 0 ∷ (READ + WRITE + FETCH) ∷ replicate 12 0
 
@@ -31,10 +31,17 @@ wholeMap = 0 ∷ IMAGE ∷ 0 ∷ (READ + WRITE + FETCH) ∷ replicate 12 0
 abbrev pub startBlock : List ℕ
 startBlock = bytesOf (wordsOf resetOpen resetCells wholeMap)
 
+-- The report before a run, and which of its words is which
 abbrev pub noReport : List ℕ
 noReport = replicate REPORT 0
 
--- What the run leaves. A longer input is not run: SIZE, and the reset state
+abbrev pub atSteps : ℕ
+atSteps = 0
+
+abbrev pub atPlace : ℕ
+atPlace = 1
+
+-- What the run leaves. An input that is longer than the memory is not run: SIZE, with the reset state
 unfoldable pub ran : List ℕ → Left
 ran input =
     cond (leb (length input) IMAGE)
@@ -58,8 +65,10 @@ lineOf answer steps pc psw place =
     ++ ascii "\n"))))
 
 abbrev pub lineAfter : Left → List ℕ
-lineAfter l = lineOf (l .answer) (wordAt (l .report) 0) (wordAt (l .block) atPC) (wordAt (l .block) atPSW) (wordAt (l .report) 1)
+lineAfter l =
+    lineOf (l .answer) (wordAt (l .report) atSteps) (wordAt (l .block) atPC) (wordAt (l .block) atPSW) (wordAt (l .report) atPlace)
 
+-- THE LINE of an input
 unfoldable pub line : List ℕ → List ℕ
 line input = lineAfter (ran input)
 

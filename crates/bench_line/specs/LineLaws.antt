@@ -10,7 +10,7 @@ use Rattle.v850.specs.Block.{wordAt, atPC, atPSW}
 use Rattle.v850.specs.Entry.{Left, called}
 use Rattle.bench_line.specs.Text.{DIGITS, Wrote}
 use Rattle.bench_line.specs.TextLaws.{hex-length, decimal-length}
-use Rattle.bench_line.specs.Line.{IMAGE, BUDGET, padded, startBlock, noReport, Leaves, ran, lineOf, line, LONGEST}
+use Rattle.bench_line.specs.Line.{IMAGE, BUDGET, padded, startBlock, noReport, atSteps, atPlace, Leaves, ran, lineOf, line, LONGEST}
 
 -- zeros but for the first ones are zeros
 abbrev zeros : ℕ → List ℕ
@@ -45,7 +45,7 @@ module _ (input : List ℕ) {block report : List ℕ} (b : block ≡ startBlock)
 
 -- the line of what a run left
 pub line-wrote : (input : List ℕ) {before after block report : List ℕ} {next answer steps pc psw place : ℕ}
-    → Leaves (ran input) answer block report → steps ≡ wordAt report 0 → pc ≡ wordAt block atPC → psw ≡ wordAt block atPSW → place ≡ wordAt report 1
+    → Leaves (ran input) answer block report → steps ≡ wordAt report atSteps → pc ≡ wordAt block atPC → psw ≡ wordAt block atPSW → place ≡ wordAt report atPlace
     → Wrote before 0 (lineOf answer steps pc psw place) after next → Wrote before 0 (line input) after next
 unfolding line
 line-wrote input e s c p l w = rw (s, c, p, l, e .answer, e .block, e .report) at w
