@@ -1,10 +1,10 @@
 // The input as a memory, and its run from reset.
 ghost use mathlib.Core.Path.{_≡_};
-ghost use Prim.Native.Nat.{_+_, _*_, _^_, _≤_, _<_};
+ghost use Prim.Native.Nat.{_≤_};
 ghost use lib.ListN.{length};
-ghost use Rattle.v850.specs.Block.{wordAt};
 ghost use Rattle.bench_line.specs.Line.{IMAGE, padded, startBlock, noReport, Leaves, ran};
 use crate::text;
+use v850::block;
 use v850::entry;
 
 const IMAGE: usize = 4096;
@@ -15,9 +15,9 @@ const BUDGET: u32 = 1000;
 const SIZE: u32 = 1;
 
 // The two bytes of the map that are not 0, in region 0: the length's second one, and the rights.
-const LENGTH_1: usize = 177;
+const LENGTH_1: usize = 4 * block::MAP + 5;
 
-const RIGHTS: usize = 184;
+const RIGHTS: usize = 4 * block::MAP + 12;
 
 // The input, and zeros behind it.
 fn padded(input: &[u8]) -> [u8; IMAGE]
@@ -51,24 +51,4 @@ pub fn run(input: &[u8], block: &mut [u8], report: &mut [u8]) -> u32
     let mut memory = padded(input);
     let mut marks = [0u8; IMAGE];
     entry::v850_run(block, &mut memory, &mut marks, report, BUDGET)
-}
-
-// A byte as a word.
-fn wide(x: u8) -> u32
-    ensures { λ r. ⌜ (r ≡ x) × (r < 2 ^ 8) ⌝ }
-{
-    x as u32
-}
-
-// Word i of the block or of the report.
-pub fn word(b: &[u8], i: usize) -> u32
-    requires { ⌜ 4 * i + 3 < length (now b) ⌝ }
-    ensures { λ r. ⌜ r ≡ wordAt (now (b .entry)) i ⌝ }
-{
-    let k = 4 * i;
-    let b0 = wide(b[k]);
-    let b1 = wide(b[k + 1]);
-    let b2 = wide(b[k + 2]);
-    let b3 = wide(b[k + 3]);
-    b0 + 256 * (b1 + 256 * (b2 + 256 * b3))
 }

@@ -4,30 +4,22 @@ mod text;
 
 ghost use Rattle.bench_line.specs.Text.{Wrote};
 ghost use Rattle.bench_line.specs.Line.{lineOf, line};
+use v850::block;
 
 // Room for the longest line.
 pub const LONGEST: usize = 65;
-
-// Which word of the block is which, and of the report.
-const PC: usize = 32;
-
-const PSW: usize = 33;
-
-const STEPS: usize = 0;
-
-const PLACE: usize = 1;
 
 // The line of an input, at the start of out. What follows it there stays as it was. Returns how long the line is.
 pub fn line(input: &[u8], out: &mut [u8; LONGEST]) -> usize
     ensures { λ r. ⌜ Wrote (now (out .entry)) 0 (line (now (input .entry))) (now (out .exit)) r ⌝ }
 {
-    let mut block = image::start_block();
+    let mut state = image::start_block();
     let mut report = [0u8; 8];
-    let answer = image::run(input, &mut block, &mut report);
-    let steps = image::word(&report, STEPS);
-    let pc = image::word(&block, PC);
-    let psw = image::word(&block, PSW);
-    let place = image::word(&report, PLACE);
+    let answer = image::run(input, &mut state, &mut report);
+    let steps = block::word_at(&report, block::STEPS);
+    let pc = block::word_at(&state, block::PC);
+    let psw = block::word_at(&state, block::PSW);
+    let place = block::word_at(&report, block::PLACE);
     put_line(out, answer, steps, pc, psw, place)
 }
 

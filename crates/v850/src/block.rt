@@ -11,9 +11,9 @@ ghost use Rattle.v850.specs.BlockLaws.{Marks, sysMarks};
 use machine::Open;
 
 // Which word is which. Words 0 to 31 are r0 to r31.
-const PC: usize = 32;
+pub const PC: usize = 32;
 
-const PSW: usize = 33;
+pub const PSW: usize = 33;
 
 const EIPC: usize = 34;
 
@@ -33,7 +33,12 @@ const REG_MARKS: usize = 41;
 
 const SYS_MARKS: usize = 42;
 
-const MAP: usize = 43;
+pub const MAP: usize = 43;
+
+// And of the report.
+pub const STEPS: usize = 0;
+
+pub const PLACE: usize = 1;
 
 // Which cell is which. Cells 0 to 31 are r0 to r31.
 const CELL_EIPC: usize = 32;
@@ -63,16 +68,16 @@ fn byte(w: u32, k: u32) -> u32
     (w >> (8 * k)) % 256
 }
 
-// Word i of the block.
-fn word_at(block: &[u8], i: usize) -> u32
-    requires { ⌜ (i < WORDS) × (length (now block) ≡ BYTES) ⌝ }
-    ensures { λ r. ⌜ r ≡ wordAt (now (block .entry)) i ⌝ }
+// Word i of a block or a report.
+pub fn word_at(b: &[u8], i: usize) -> u32
+    requires { ⌜ 4 * i + 3 < length (now b) ⌝ }
+    ensures { λ r. ⌜ r ≡ wordAt (now (b .entry)) i ⌝ }
 {
     let k = 4 * i;
-    let b0 = wide(block[k]);
-    let b1 = wide(block[k + 1]);
-    let b2 = wide(block[k + 2]);
-    let b3 = wide(block[k + 3]);
+    let b0 = wide(b[k]);
+    let b1 = wide(b[k + 1]);
+    let b2 = wide(b[k + 2]);
+    let b3 = wide(b[k + 3]);
     b0 + 256 * (b1 + 256 * (b2 + 256 * b3))
 }
 
@@ -289,8 +294,8 @@ pub fn put_report(report: &mut [u8], steps: u32, place: u32)
     requires { ⌜ length (now report) ≡ 8 ⌝ }
     ensures { λ _. ⌜ now (report .exit) ≡ bytesOf (steps ∷ place ∷ []) ⌝ }
 {
-    put_word(report, 0, steps);
-    put_word(report, 1, place);
+    put_word(report, STEPS, steps);
+    put_word(report, PLACE, place);
 }
 
 // The report of a refusal.
