@@ -12,6 +12,7 @@ use Rattle.machine.specs.Regions.{goodMap}
 use Rattle.machine.specs.Run.{number}
 use Rattle.v850.specs.Block.{mapIn, coreIn, cellsIn, goodState}
 use Rattle.v850.specs.Entry.{Left, left, REPORT, goodSizes, wordsIn, called}
+use Rattle.v850.specs.CallLaws.{refused-size, refused-map, refused-state}
 use Rattle.v850.specs.AnswerLaws.{run-answers}
 
 -- no number of a refused call
@@ -52,12 +53,6 @@ ordered true true true x y z u h hy hz hu =
       state = (λ e. absurd (another 3 (omega arith) (omega arith) h e), λ p. absurd (true≢false (p .2)));
     }
 
-passed-test : {A : Type 0} (a : Bool) (x y : A) → a ≡ true → cond a x y ≡ x
-passed-test a x y p = rw p
-
-failed-test : {A : Type 0} (a : Bool) (x y : A) → a ≡ false → cond a x y ≡ y
-failed-test a x y p = rw p
-
 module _ (block memory marks report : List ℕ) (budget : ℕ) where
   abbrev sizes : Bool
   sizes = goodSizes block memory marks report
@@ -90,19 +85,16 @@ module _ (block memory marks report : List ℕ) (budget : ℕ) where
   -- SIZE leaves everything as it was.
   pub size-leaves : called block memory marks report budget .answer ≡ number Size
       → called block memory marks report budget ≡ left Size block memory marks report
-  unfolding called
-  size-leaves e = failed-test sizes _ _ (size-exactly .0 e)
+  size-leaves e = sym (refused-size block memory marks report budget (size-exactly .0 e))
 
   -- MAP and STATE leave everything but the report, which is zeros.
   pub map-leaves : called block memory marks report budget .answer ≡ number Map
       → called block memory marks report budget ≡ left Map block memory marks (replicate REPORT 0)
-  unfolding called
-  map-leaves e = let t = map-exactly .0 e in passed-test sizes _ _ (t .0) ∙ failed-test regions _ _ (t .1)
+  map-leaves e = let t = map-exactly .0 e in sym (refused-map block memory marks report budget (t .0) (t .1) refl)
 
   pub state-leaves : called block memory marks report budget .answer ≡ number State
       → called block memory marks report budget ≡ left State block memory marks (replicate REPORT 0)
-  unfolding called
-  state-leaves e = let t = state-exactly .0 e in passed-test sizes _ _ (t .0) ∙ passed-test regions _ _ (t .1) ∙ failed-test states _ _ (t .2)
+  state-leaves e = let t = state-exactly .0 e in sym (refused-state block memory marks report budget (t .0) (t .1) (t .2) refl)
 
   -- What a call leaves is one: any two outcomes that the definition allows are equal.
   pub called-one : {x y : Left} → x ≡ called block memory marks report budget → y ≡ called block memory marks report budget → x ≡ y

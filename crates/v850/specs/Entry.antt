@@ -63,8 +63,11 @@ reset block =
     (record { answer = number Done; block = bytesOf (wordsOf resetOpen resetCells (mapIn (wordsIn block))) })
     (record { answer = number Size; block = block })
 
--- The region view: that very part of the memory, or an empty one
+-- The region view: what it asks, and that very part of the memory, or an empty one
+abbrev pub handed : List ℕ → List ℕ → ℕ → Bool
+handed block memory k =
+    leb k 3 && (eqb (length block) BYTES && (leb (length memory) MEMORY && goodMap (mapIn (wordsIn block)) (length memory)))
+
 unfoldable pub view : List ℕ → List ℕ → ℕ → List ℕ
 view block memory k =
-    cond (leb k 3 && (eqb (length block) BYTES && (leb (length memory) MEMORY && goodMap (mapIn (wordsIn block)) (length memory))))
-    (take (size (mapIn (wordsIn block)) k) (drop (offset (mapIn (wordsIn block)) k) memory)) []
+    cond (handed block memory k) (take (size (mapIn (wordsIn block)) k) (drop (offset (mapIn (wordsIn block)) k) memory)) []

@@ -13,8 +13,8 @@ use Rattle.machine.specs.Regions.{goodMap, goodRegion, base, offset, size, unus
 use Rattle.machine.specs.RegionLaws.{and-true, used, good-at}
 use Rattle.v850.specs.Block.{BYTES, mapIn, wordsOf, goodState}
 use Rattle.v850.specs.BlockLaws.{apart-together, formed-good-state, formed-words}
-use Rattle.v850.specs.Entry.{MEMORY, wordsIn, Reset, reset, view}
-use Rattle.v850.specs.Handed.{handed, viewFrom, onBy}
+use Rattle.v850.specs.Entry.{MEMORY, wordsIn, Reset, reset, handed, view}
+use Rattle.v850.specs.Handed.{viewFrom, onBy}
 
 -- A region of a good map lies in memory, used or not
 pub region-fits : (map : List ℕ) (n k : ℕ) → goodMap map n ≡ true → k < 4 → offset map k + size map k ≤ n

@@ -1,17 +1,10 @@
 -- Where the region view lies: that very part of the lent memory, by its place and not only by its bytes.
-use mathlib.Core.Bool.{Bool, cond, _&&_}
+use mathlib.Core.Bool.{cond}
 use mathlib.Core.List.{List}
 use Prim.Native.Nat.{ℕ, _+_}
-use lib.Dec.{eqb, leb}
-use lib.ListN.{length}
-use Rattle.machine.specs.Regions.{goodMap, offset}
-use Rattle.v850.specs.Block.{BYTES, mapIn}
-use Rattle.v850.specs.Entry.{MEMORY, wordsIn}
-
--- what the view asks
-abbrev pub handed : List ℕ → List ℕ → ℕ → Bool
-handed block memory k =
-    leb k 3 && (eqb (length block) BYTES && (leb (length memory) MEMORY && goodMap (mapIn (wordsIn block)) (length memory)))
+use Rattle.machine.specs.Regions.{offset}
+use Rattle.v850.specs.Block.{mapIn}
+use Rattle.v850.specs.Entry.{wordsIn, handed}
 
 -- the byte of memory where the part begins; an empty one begins with the memory
 unfoldable pub viewFrom : List ℕ → List ℕ → ℕ → ℕ

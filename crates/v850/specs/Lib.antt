@@ -7,6 +7,6 @@ pub mod EntryLaws
 pub mod AlikeStarts
 pub mod SecrecyLaws
 pub mod Secrecy
+pub mod CallLaws
 pub mod AnswerLaws
 pub mod Answers
-pub mod CallLaws
