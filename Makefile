@@ -1,11 +1,11 @@
 # `make run` does the main job, `make test` passes the tests; both set up what they need.
 #
+#   bench     the bench program on an image from standard input
 #   all       prove the library and write target/staticlib/libv850.a
 #   compare   the library beside the second program; CASES=N SEED=S for more or other cases
-#   example   the example host, its output against the stored one
+#   example   the example host and the one in README.md, their output against the stored one
 #   teeth     the comparison with each seeded fault; prints docs/FAULTS-FOUND.md
 #   speed     ns and instructions a step
-#   bench     the small program on standard input
 #   install   library, header and v850.pc under PREFIX
 export LC_ALL := C
 
@@ -15,21 +15,17 @@ X86 := tests/tools/x86
 SUB := $(MAKE) --no-print-directory
 
 # LIBRARY=FILE takes a ready archive with the same entries in the place of ours.
-# While crates.txt does not list the crate there is none, and what needs one is passed over or refused.
 ifneq ($(LIBRARY),)
 override LIBRARY := $(abspath $(LIBRARY))
 library:
 	@test -f $(LIBRARY)
-else ifneq ($(shell grep '^v850:' crates.txt),)
+else
 LIBRARY := $(CURDIR)/target/staticlib/libv850.a
 library:
 	@rt staticlib v850 >&2
-else
-library:
-	@echo "crates.txt does not list v850 yet, so there is no library" >&2; exit 1
 endif
 
-.PHONY: all library setup header compare example teeth speed bench install clean run test
+.PHONY: all library setup header compare example readme teeth speed bench install clean run test
 
 all: library
 
@@ -44,12 +40,21 @@ header:
 compare: setup library
 	@$(SUB) -C tests/compare run LIBRARY=$(LIBRARY)
 
-example: setup header library
+example: setup header library readme
 	@mkdir -p target/example
 	@$(X86) cc -std=c11 -O2 $(WARN) -Iinclude -static -o target/example/host examples/host.c $(LIBRARY)
 	@$(X86) run target/example/host >target/example/host.out
 	@diff examples/host.expected target/example/host.out
 	@echo "examples/host: as expected"
+
+# The program in README.md does what README.md says: what it prints stands there as a line of its own.
+readme: setup library
+	@mkdir -p target/example
+	@sed -n '/^```c$$/,/^```$$/{/^```/!p;}' README.md >target/example/readme.c
+	@$(X86) cc -std=c11 -O2 $(WARN) -Iinclude -static -o target/example/readme target/example/readme.c $(LIBRARY)
+	@$(X86) run target/example/readme >target/example/readme.out
+	@grep -qxF "    $$(cat target/example/readme.out)" README.md
+	@echo "README.md: as it says"
 
 teeth: setup library
 	@$(SUB) -C tests/compare teeth LIBRARY=$(LIBRARY)
@@ -59,8 +64,7 @@ speed: setup library
 
 # The program of document 01: an image on standard input, one line on standard output.
 bench:
-	@if grep -q '^bench:' crates.txt; then tools/run bench; \
-	else echo "crates.txt does not list bench yet; this will run target/bin/bench on standard input" >&2; fi
+	@tools/run bench
 
 install: library
 	install -d $(DESTDIR)$(PREFIX)/lib/pkgconfig $(DESTDIR)$(PREFIX)/include
@@ -71,9 +75,9 @@ install: library
 clean:
 	rm -rf target tests/second/build
 
-# The main job: for now, every first halfword is decoded and encoded again.
+# The main job: the bench program on document 01's sample.
 run:
-	@tools/run insn_walk
+	@tools/run bench <crates/bench/stdin
 
 # The gate: the second program's own test, the comparison with itself and with the library; then every crate is
 # proved, every must-fail edit refused, every program run. The last line is rt's.
@@ -82,10 +86,6 @@ test:
 	@$(SUB) header
 	@$(SUB) -s -C tests/second test BUILD=$(CURDIR)/target/second
 	@$(SUB) -C tests/compare self
-ifneq ($(LIBRARY),)
 	@$(SUB) compare
 	@$(SUB) example
-else
-	@echo "crates.txt does not list v850 yet: nothing is compared with the library"
-endif
 	@rt ci
