@@ -46,7 +46,7 @@ unfoldable pub run : ℕ → ℕ → List ℕ → Open → Cells → Cells → E
 run zero n map o c m = ended Done 0 n o c m
 run (suc budget) n map o c m = carry (run budget (suc n) map) n o (step map o c m)
 
--- Reset: PC 0, PSW 20H, ECR 0; all else 0 and unmarked, not halted, no request
+-- Reset: PC 0, PSW 20H, ECR 0. House rule: all else 0 and unmarked, not halted, no request
 abbrev pub resetOpen : Open
 resetOpen = record { pc = 0; np = 0; ep = 0; id = 1; ecr = 0; code = 0; nmi = 0; halted = 0 }
 

@@ -22,6 +22,7 @@ use Rattle.insn.specs.declared.Insn.the-variants.{Reg, Jmp, Imm5, Sld, Sst, Bco
 use Rattle.insn.specs.declared.RegOp.the-variants.{Xor, Satadd, Satsub, Divh, Mulh, Or, Add, Cmp, Sub}
 use Rattle.insn.specs.declared.Imm5Op.the-variants.{Mov5, Add5, Shr5}
 use Rattle.insn.specs.declared.Imm16Op.the-variants.{Movea, Movhi, Andi, Satsubi}
+use Rattle.insn.specs.declared.ShiftOp.the-variants.{Sar, Shl}
 use Rattle.insn.specs.declared.BitOp.the-variants.{Set1, Not1, Clr1, Tst1}
 use Rattle.insn.specs.declared.Size.the-variants.{Byte, Half, Word}
 use Rattle.machine.specs.declared.Open.{Open}
@@ -60,9 +61,16 @@ loaded base size bytes =
 abbrev program : List Insn → Start
 program is = loaded 0 32 (assembled is)
 
--- a start with a register, a saved register's cell, the modes NP EP ID, a mark of memory or requests changed
+-- a start with a register, a saved register's cell, the modes NP EP ID, PC, a mark of memory or requests changed
 abbrev withCell : ℕ → ℕ → Bool → Start → Start
 withCell i v m s = record { map = s .map; core = s .core; cells = put i (tv v m) (s .cells); mem = s .mem }
+
+-- two operands in r1 and r2
+abbrev operands : ℕ → ℕ → Start → Start
+operands x y s = withCell 1 x false (withCell 2 y false s)
+
+abbrev withPc : ℕ → Start → Start
+withPc p s = record { map = s .map; core = goto p (s .core); cells = s .cells; mem = s .mem }
 
 abbrev withModes : ℕ → ℕ → ℕ → Start → Start
 withModes n e i s = record { map = s .map; core = modes n e i (s .core); cells = s .cells; mem = s .mem }
@@ -123,12 +131,29 @@ abbrev pub cases : List Case
 cases =
     -- the order's sample
     case (loaded 0 12 (0x05 ∷ 0x52 ∷ 0x5F ∷ 0x52 ∷ 0xFA ∷ 0xFD ∷ 0xE0 ∷ 0x07 ∷ 0x20 ∷ 0x01 ∷ [])) 1000 Asleep 12 0 0x0A 0x29 (seen 10 0 0 ∷ [])
-    -- proved numbers: TRAP 10H at 100H with PSW 0; XOR of a marked register with itself, a slip to expect
+    -- the order's numbers. 5205H is MOV 5, r10; 007FH is JMP [r31]; 0860H undefined
+    ∷ case (loaded 0 4 (0x05 ∷ 0x52 ∷ [])) 1 Done 1 0 2 0x20 (seen 10 5 0 ∷ [])
+    ∷ case (withCell 31 0x10 false (loaded 0 4 (0x7F ∷ 0x00 ∷ []))) 1 Done 1 0 0x10 0x20 []
+    ∷ case (loaded 0 4 (0x60 ∷ 0x08 ∷ [])) 9 Undefined 0 0 0 0x20 []
+    -- 87E0H 0160H is EI; 87E0H 0161H undefined; 07E0H 0180H the illegal code
+    ∷ case (loaded 0 4 (0xE0 ∷ 0x87 ∷ 0x60 ∷ 0x01 ∷ [])) 1 Done 1 0 4 0x00 []
+    ∷ case (loaded 0 4 (0xE0 ∷ 0x87 ∷ 0x61 ∷ 0x01 ∷ [])) 9 Undefined 0 0 0 0x20 []
+    ∷ case (loaded 0x100 8 (0xE0 ∷ 0x07 ∷ 0x80 ∷ 0x01 ∷ [])) 1 Done 1 0 0x60 0x60 (seen (sys EIPC) 0x104 0 ∷ seen (sys EIPSW) 0x20 0 ∷ [])
+    -- ADD 7FFFFFFFH + 1; SATADD of the same, where S speaks of the stored result, a slip to expect; SUB 0 - 1
+    ∷ case (operands 1 0x7FFFFFFF (program (Reg Add 1 2 ∷ []))) 1 Done 1 0 2 0x26 (seen 2 0x80000000 0 ∷ [])
+    ∷ case (operands 1 0x7FFFFFFF (program (Reg Satadd 1 2 ∷ []))) 1 Done 1 0 2 0x34 (seen 2 0x7FFFFFFF 0 ∷ [])
+    ∷ case (operands 1 0 (program (Reg Sub 1 2 ∷ []))) 1 Done 1 0 2 0x2A (seen 2 0xFFFFFFFF 0 ∷ [])
+    -- SHL of 3 by 31; SAR of 80000001H by 1; DIVH -7 by 2; MULH of 8000H by 8000H
+    ∷ case (operands 31 3 (program (Shift Shl 1 2 ∷ []))) 1 Done 1 0 4 0x2A (seen 2 0x80000000 0 ∷ [])
+    ∷ case (operands 1 0x80000001 (program (Shift Sar 1 2 ∷ []))) 1 Done 1 0 4 0x2A (seen 2 0xC0000000 0 ∷ [])
+    ∷ case (operands 2 (minus 7) (program (Reg Divh 1 2 ∷ []))) 1 Done 1 0 2 0x22 (seen 2 (minus 3) 0 ∷ [])
+    ∷ case (operands 0x8000 0x8000 (program (Reg Mulh 1 2 ∷ []))) 1 Done 1 0 2 0x20 (seen 2 0x40000000 0 ∷ [])
+    -- TRAP 10H at 100H with PSW 0; then at 50H STSR ECR, r1 shows EICC 0050H
     ∷ case (withModes 0 0 0 (loaded 0x100 8 (assembled (Trap 0x10 ∷ [])))) 1 Done 1 0 0x50 0x60 (seen (sys EIPC) 0x104 0 ∷ seen (sys EIPSW) 0 0 ∷ [])
+    ∷ case (withPc 0x100 (withModes 0 0 0 (loaded 0x50 0xB4 (assembled (Stsr 4 1 ∷ []) ++ (replicate 0xAC 0 ++ assembled (Trap 0x10 ∷ [])))))) 2 Done 2 0 0x54 0x60 (seen 1 0x0050 0 ∷ [])
+    -- XOR of a marked register with itself, a slip to expect
     ∷ case (withCell 5 7 true (program (Reg Xor 5 5 ∷ []))) 1 Done 1 0 2 0x21 (seen 5 0 1 ∷ seen (sys 5) 0x01 0x03 ∷ [])
-    -- slips: S speaks of the stored result
-    ∷ case (withCell 1 1 false (withCell 2 0x7FFFFFFF false (program (Reg Satadd 1 2 ∷ [])))) 1 Done 1 0 2 0x34 (seen 2 0x7FFFFFFF 0 ∷ [])
-    -- LDSR r5, EIPSW: system number in bits 15-11, source in 4-0
+    -- more slips. LDSR r5, EIPSW: system number in bits 15-11, source in 4-0
     ∷ case (withCell 5 0xAB false (withCell 1 0xCD false (program (Ldsr 5 1 ∷ [])))) 1 Done 1 0 4 0x20 (seen (sys EIPSW) 0xAB 0 ∷ [])
     -- a branch back by 4, from its own address 8
     ∷ case (withCell 1 0 false (program (Reg Or 0 0 ∷ Reg Or 0 0 ∷ Reg Or 0 0 ∷ Reg Or 0 0 ∷ Bcond 5 (minus 4) ∷ []))) 5 Done 5 0 4 0x21 []
@@ -138,13 +163,12 @@ cases =
     ∷ case (loaded 0 4 (assembled (Imm5 Mov5 1 2 ∷ Imm5 Mov5 5 1 ∷ []))) 2 Done 2 0 4 0x20 (seen 1 5 0 ∷ seen 2 1 0 ∷ [])
     ∷ case (loaded 0 4 (assembled (Imm5 Mov5 1 2 ∷ Imm5 Mov5 5 1 ∷ []))) 3 NoFetch 2 4 4 0x20 []
     -- the manual's table of saturation: below the least word
-    ∷ case (withCell 1 1 false (withCell 2 0x80000000 false (program (Reg Satsub 1 2 ∷ [])))) 1 Done 1 0 2 0x36 (seen 2 0x80000000 0 ∷ [])
+    ∷ case (operands 1 0x80000000 (program (Reg Satsub 1 2 ∷ []))) 1 Done 1 0 2 0x36 (seen 2 0x80000000 0 ∷ [])
     -- SAT is not reset by the next operation
-    ∷ case (withCell 1 1 false (withCell 2 0x7FFFFFFF false (program (Reg Satadd 1 2 ∷ Reg Satadd 0 1 ∷ [])))) 2 Done 2 0 4 0x30 []
-    -- Table 6-1: NMI 0010H, maskable 0080H, the illegal code 0060H
+    ∷ case (operands 1 0x7FFFFFFF (program (Reg Satadd 1 2 ∷ Reg Satadd 0 1 ∷ []))) 2 Done 2 0 4 0x30 []
+    -- Table 6-1: NMI 0010H, maskable 0080H
     ∷ case (withModes 0 0 0 (withRequests 0x80 1 1 (loaded 0x100 8 []))) 1 Done 1 0 0x10 0xA0 (seen (sys FEPC) 0x100 0 ∷ seen (sys FEPSW) 0 0 ∷ [])
     ∷ case (withModes 0 0 0 (withRequests 0x80 0 1 (loaded 0x100 8 []))) 1 Done 1 0 0x80 0x20 (seen (sys EIPC) 0x100 0 ∷ [])
-    ∷ case (loaded 0x100 8 (0xE0 ∷ 0x07 ∷ 0x80 ∷ 0x01 ∷ [])) 1 Done 1 0 0x60 0x60 (seen (sys EIPC) 0x104 0 ∷ seen (sys EIPSW) 0x20 0 ∷ [])
     -- a pending code with ID 1 does not end HALT
     ∷ case (withRequests 0x80 0 1 (program [])) 9 Asleep 0 0 0 0x20 []
     -- RETI from an NMI takes FEPC and FEPSW, and clears PC bit 0
@@ -164,10 +188,9 @@ cases =
     ∷ case (withCell 1 16 true (program (Ld Byte 0 1 2 ∷ []))) 9 Leak 0 0 0 0x20 []
     ∷ case (withMark 1 (program (Imm5 Mov5 1 1 ∷ []))) 9 Leak 0 0 0 0x20 []
     ∷ case (withCell 1 1 true (program (Reg Cmp 1 2 ∷ Bcond 13 4 ∷ []))) 2 Done 2 0 4 0x2A []
-    -- operands outside the region, by cleared addresses, and a word that decodes to nothing
+    -- operands outside the region, by cleared addresses
     ∷ case (program (Ld Word 0x102 0 1 ∷ [])) 9 NoRead 0 0x100 0 0x20 []
     ∷ case (program (St Half 0x100 0 1 ∷ [])) 9 NoWrite 0 0x100 0 0x20 []
-    ∷ case (loaded 0 4 (0x60 ∷ 0x08 ∷ [])) 9 Undefined 0 0 0 0x20 []
     ∷ []
 
 pub runs : T (allTrue cases)

@@ -159,7 +159,7 @@ return pc saved o c m =
 unfoldable pub reti : Open → Cells → Cells → Outcome
 reti o c m = cond (eqb (o .ep) 0 && eqb (o .np) 1) (return FEPC FEPSW o c m) (return EIPC EIPSW o c m)
 
--- What each instruction does. SLD and SST take their base from r30, the element pointer
+-- What each instruction does. SLD and SST take their base from r30, the element pointer. House rule: HALT moves PC on by 4, and ends only when a request is accepted
 unfoldable pub exec : Insn → List ℕ → Open → Cells → Cells → Outcome
 exec (Jmp reg1) map o c m = jmp reg1 o c m
 exec (Reg op reg1 reg2) map o c m = next (plus 2 o) (operate (ofReg op) (reg reg1 c) (reg reg2 c) reg2 c) m
