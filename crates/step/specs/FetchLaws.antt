@@ -12,6 +12,7 @@ use Rattle.machine.specs.declared.Tv.{Tv}
 use Rattle.machine.specs.declared.Open.{Open}
 use Rattle.machine.specs.declared.Spot.{Spot}
 use Rattle.machine.specs.declared.Spot.the-variants.{At, Nowhere}
+use Rattle.machine.specs.declared.Answer.{Answer}
 use Rattle.machine.specs.declared.Answer.the-variants.{NoFetch, Leak}
 use Rattle.machine.specs.Marked.{liftAll, Cells, both}
 use Rattle.machine.specs.Regions.{FETCH, find}
@@ -19,7 +20,8 @@ use Rattle.machine.specs.Memory.{bytesAt, littleEndian}
 use Rattle.machine.specs.WellFormed.{Bytes}
 use Rattle.machine.specs.InvariantLaws.{half-lt}
 use Rattle.machine.specs.Step.{Outcome, refuse, execute, fetch, instruction}
-use Rattle.step.specs.Tasks.{Ready}
+use Rattle.step.specs.declared.Fetched.{Fetched}
+use Rattle.step.specs.Tasks.{Ready, goesOn, fetched}
 use Rattle.step.specs.StepLaws.{opened, leaked, placed, nowhere, fits}
 
 cleared : (a b : ℕ) → a % 2 ≡ 0 → b ≡ a → a ≡ b / 2 * 2
@@ -32,6 +34,11 @@ next-even a h = omega arith
 pub half-small : (m k : List ℕ) (p : ℕ) {h : Tv} → ((i : ℕ) → getD m i 0 < 2 ^ 8)
     → h ≡ liftAll littleEndian (bytesAt (both m k) p Half) → h .val < 2 ^ 16
 half-small m k p b e = rw e (half-lt {m = both m k} (record { small = b }) p)
+
+-- a fetch that is refused
+pub not-fetched : (f : Fetched) {a : Answer} {p : ℕ} (map : List ℕ) (o : Open) {c m : Cells} {x : Outcome} → f .answer ≡ a → f .place ≡ p → goesOn a ≡ false
+    → refuse a p c m ≡ x → fetched f map o c m ≡ x
+not-fetched f map o h k t q = rw (h, k, t) q
 
 module _ (map : List ℕ) (a : ℕ) (even : a % 2 ≡ 0) {s : Spot} (e : s ≡ find map FETCH a) where
   -- what is found lies in memory

@@ -17,7 +17,7 @@ use Rattle.machine.specs.Run.{Ended, ended, carry, run}
 use Rattle.machine.specs.WellFormed.{WellFormed, Bytes}
 use Rattle.machine.specs.Invariants.{step-well-formed, step-lengths}
 use Rattle.step.specs.declared.Out.{Out}
-use Rattle.step.specs.Tasks.{goesOn, wentOf, Ready}
+use Rattle.step.specs.Tasks.{openOf, goesOn, wentOf, Ready}
 
 left : (b n : ℕ) → n < b → b - n ≡ suc (b - (n + 1))
 left b n h = omega arith
@@ -40,7 +40,7 @@ module _ (b n : ℕ) (map : List ℕ) (o : Open) (c m : Cells) where
 
   -- the step w went on, or was refused
   pub run-on : (w : Out) {d q : Cells} → n < b → goesOn (w .answer) ≡ true → after (wentOf w) d q ≡ step map o c m
-      → run (b - (n + 1)) (n + 1) map (w .core) d q ≡ run (b - n) n map o c m
+      → run (b - (n + 1)) (n + 1) map (openOf (w .core)) d q ≡ run (b - n) n map o c m
   run-on w h t e = run-next h (rw t at e)
 
   pub run-stop : (w : Out) {d q : Cells} → n < b → goesOn (w .answer) ≡ false → after (wentOf w) d q ≡ step map o c m
@@ -48,11 +48,11 @@ module _ (b n : ℕ) (map : List ℕ) (o : Open) (c m : Cells) where
   run-stop w h t e = run-refused h (rw t at e)
 
 module _ (map : List ℕ) (o : Open) (c m : Cells) (w : Out) {d q : Cells} (e : after (wentOf w) d q ≡ step map o c m) where
-  pub on-well-formed : goesOn (w .answer) ≡ true → WellFormed o c → Bytes m → WellFormed (w .core) d × Bytes q
+  pub on-well-formed : goesOn (w .answer) ≡ true → WellFormed o c → Bytes m → WellFormed (openOf (w .core)) d × Bytes q
   on-well-formed t f b =
-      let e1 : next (w .core) d q ≡ step map o c m = rw t at e in
-      let g = step-well-formed map o c m f b (w .core) (ap (λ (x : Outcome). x .went) (sym e1)) in (
-        subst (λ (x : Cells). WellFormed (w .core) x) (ap (λ (x : Outcome). x .cells) (sym e1)) (g .0),
+      let e1 : next (openOf (w .core)) d q ≡ step map o c m = rw t at e in
+      let g = step-well-formed map o c m f b (openOf (w .core)) (ap (λ (x : Outcome). x .went) (sym e1)) in (
+        subst (λ (x : Cells). WellFormed (openOf (w .core)) x) (ap (λ (x : Outcome). x .cells) (sym e1)) (g .0),
         subst Bytes (ap (λ (x : Outcome). x .mem) (sym e1)) (g .1),
       )
 
