@@ -21,7 +21,7 @@ use Rattle.machine.specs.WellFormed.{Bytes}
 use Rattle.machine.specs.InvariantLaws.{half-lt}
 use Rattle.machine.specs.Step.{Outcome, refuse, execute, fetch, instruction}
 use Rattle.step.specs.declared.Fetched.{Fetched}
-use Rattle.step.specs.Tasks.{Ready, goesOn, fetched}
+use Rattle.step.specs.Tasks.{Prepared, goesOn, fetched}
 use Rattle.step.specs.StepLaws.{opened, leaked, placed, nowhere, fits}
 
 cleared : (a b : ℕ) → a % 2 ≡ 0 → b ≡ a → a ≡ b / 2 * 2
@@ -42,7 +42,7 @@ not-fetched f map o h k t q = rw (h, k, t) q
 
 module _ (map : List ℕ) (a : ℕ) (even : a % 2 ≡ 0) {s : Spot} (e : s ≡ find map FETCH a) where
   -- what is found lies in memory
-  pub half-fits : {mem marks : List ℕ} → Ready map mem marks → {p : ℕ} → s ≡ At p → (p + 2 ≤ length mem) × (length mem ≡ length marks)
+  pub half-fits : {sizes mem marks : List ℕ} → Prepared map sizes mem marks → {p : ℕ} → s ≡ At p → (p + 2 ≤ length mem) × (length mem ≡ length marks)
   half-fits r h = fits r Half FETCH a (cleared a a even refl) e h
 
   module _ (o : Open) (c m : Cells) {b : ℕ} (same : b ≡ a) (k : ℕ → Outcome) where

@@ -17,7 +17,7 @@ use Rattle.machine.specs.Run.{Ended, ended, carry, run}
 use Rattle.machine.specs.WellFormed.{WellFormed, Bytes}
 use Rattle.machine.specs.Invariants.{step-well-formed, step-lengths}
 use Rattle.step.specs.declared.Out.{Out}
-use Rattle.step.specs.Tasks.{openOf, goesOn, wentOf, Ready}
+use Rattle.step.specs.Tasks.{openOf, goesOn, wentOf, Prepared}
 
 left : (b n : ℕ) → n < b → b - n ≡ suc (b - (n + 1))
 left b n h = omega arith
@@ -56,6 +56,6 @@ module _ (map : List ℕ) (o : Open) (c m : Cells) (w : Out) {d q : Cells} (e : 
         subst Bytes (ap (λ (x : Outcome). x .mem) (sym e1)) (g .1),
       )
 
--- memory and marks as long as they were are ready too
-pub still-ready : {map m k m₀ k₀ : List ℕ} → Ready map m₀ k₀ → length m ≡ length m₀ → length k ≡ length k₀ → Ready map m k
-still-ready r h j = record { good = rw h (r .good); same = h ∙ r .same ∙ sym j }
+-- memory and marks as long as they were are prepared too
+pub still-prepared : {map sizes m k m₀ k₀ : List ℕ} → Prepared map sizes m₀ k₀ → length m ≡ length m₀ → length k ≡ length k₀ → Prepared map sizes m k
+still-prepared p h j = record { ready = record { good = rw h (p .ready .good); same = h ∙ p .ready .same ∙ sym j }; seen = p .seen }

@@ -23,6 +23,7 @@ use Rattle.step.specs.declared.Task.the-variants.{Compute, Load, Store, 
 use Rattle.machine.specs.Marked.{Cells}
 use Rattle.machine.specs.Psw.{putReg, condition}
 use Rattle.machine.specs.Regions.{goodMap}
+use Rattle.state.specs.Windows.{Sizes}
 use Rattle.machine.specs.Operations.{operate}
 use Rattle.machine.specs.Step.{Outcome, execute, refuse, next, plus, modes, waits, load, store, bitwise, jmp, bcond, jarl, ldsr, system, trap, reti}
 
@@ -116,6 +117,11 @@ TaskFields (OfSystem s) = SystemFields s
 pub record Ready (map mem marks : List ℕ) : Type 0 where
   pub good : goodMap map (length mem) ≡ true
   pub same : length mem ≡ length marks
+
+-- the same with the sizes that the code finds addresses by
+pub record Prepared (map sizes mem marks : List ℕ) : Type 0 where
+  pub ready : Ready map mem marks
+  pub seen : Sizes map sizes
 
 -- what a fetch found, carried on: a second halfword of a short form is 0, and is not looked at
 abbrev pub fetched : Fetched → List ℕ → Open → Cells → Cells → Outcome

@@ -5,7 +5,7 @@ ghost use Rattle.machine.specs.Marked.{Cells, both};
 ghost use Rattle.insn.specs.Coding.{decode};
 ghost use Rattle.machine.specs.Step.{after, execute, fetch, instruction, takeNmi, takeCode, step};
 ghost use Rattle.machine.specs.WellFormed.{WellFormed};
-ghost use Rattle.step.specs.Tasks.{openOf, wentOf, wentWide, doSystem, doTask, SystemFields, TaskFields, DecodedFields, fetched, Ready};
+ghost use Rattle.step.specs.Tasks.{openOf, wentOf, wentWide, doSystem, doTask, SystemFields, TaskFields, DecodedFields, fetched, Prepared};
 use crate::Fetched;
 use crate::Out;
 use crate::Packed;
@@ -45,13 +45,14 @@ fn system(s: System, o: Open, cells: &mut [u32; 38], tags: &mut [u8; 38]) -> Wid
 fn perform(
     t: Task,
     map: &[u32; 16],
+    sizes: &[u32; 12],
     o: Packed,
     cells: &mut [u32; 38],
     tags: &mut [u8; 38],
     mem: &mut [u8],
     marks: &mut [u8],
 ) -> Out
-    requires { ⌜ Ready (now map) (now mem) (now marks) × TaskFields t ⌝ }
+    requires { ⌜ Prepared (now map) (now sizes) (now mem) (now marks) × TaskFields t ⌝ }
     ensures { λ r. ⌜ after (wentOf r) (both (now (cells .exit)) (now (tags .exit))) (both (now (mem .exit)) (now (marks .exit))) ≡ doTask t (now (map .entry)) (openOf o) (both (now (cells .entry)) (now (tags .entry))) (both (now (mem .entry)) (now (marks .entry))) ⌝ }
 {
     match t {
@@ -78,6 +79,7 @@ fn perform(
             target,
             len,
             map,
+            sizes,
             o,
             cells,
             tags,
@@ -97,6 +99,7 @@ fn perform(
             source,
             len,
             map,
+            sizes,
             o,
             &*cells,
             &*tags,
@@ -108,7 +111,19 @@ fn perform(
             bit,
             disp,
             base,
-        } => transfer::bitwise(op, bit, disp, base, map, o, cells, tags, mem, &*marks),
+        } => transfer::bitwise(
+            op,
+            bit,
+            disp,
+            base,
+            map,
+            sizes,
+            o,
+            cells,
+            tags,
+            mem,
+            &*marks,
+        ),
         Task::Jump { base } => control::jump(base, o, &*cells, &*tags),
         Task::Branch { cond, disp } => control::branch(cond, disp, o, &*cells, &*tags),
         Task::Link { disp, target } => control::link(disp, target, o, cells, tags),
@@ -124,19 +139,20 @@ fn perform(
 fn execute(
     d: Decoded,
     map: &[u32; 16],
+    sizes: &[u32; 12],
     o: Packed,
     cells: &mut [u32; 38],
     tags: &mut [u8; 38],
     mem: &mut [u8],
     marks: &mut [u8],
 ) -> Out
-    requires { ⌜ Ready (now map) (now mem) (now marks) × DecodedFields d ⌝ }
+    requires { ⌜ Prepared (now map) (now sizes) (now mem) (now marks) × DecodedFields d ⌝ }
     ensures { λ r. ⌜ after (wentOf r) (both (now (cells .exit)) (now (tags .exit))) (both (now (mem .exit)) (now (marks .exit))) ≡ execute d (now (map .entry)) (openOf o) (both (now (cells .entry)) (now (tags .entry))) (both (now (mem .entry)) (now (marks .entry))) ⌝ }
 {
     match d {
         Decoded::Valid(i) => {
             let t = tasks::task_of(i, &*cells, &*tags);
-            perform(t, map, o, cells, tags, mem, marks)
+            perform(t, map, sizes, o, cells, tags, mem, marks)
         }
         Decoded::Illegal => {
             let w = control::illegal(core::unpack(o), cells, tags);
@@ -163,11 +179,11 @@ fn unfetched(answer: Answer, place: u32) -> Fetched
 }
 
 // A second halfword is fetched only if the first asks for it.
-fn fetch(map: &[u32; 16], pc: u32, mem: &[u8], marks: &[u8]) -> Fetched
-    requires { ⌜ Ready (now map) (now mem) (now marks) × (pc % 2 ≡ 0) ⌝ }
+fn fetch(map: &[u32; 16], sizes: &[u32; 12], pc: u32, mem: &[u8], marks: &[u8]) -> Fetched
+    requires { ⌜ Prepared (now map) (now sizes) (now mem) (now marks) × (pc % 2 ≡ 0) ⌝ }
     ensures { λ r. ⌜ ((o : Open) (c : Cells) → o .pc ≡ pc → fetched r (now (map .entry)) o c (both (now (mem .entry)) (now (marks .entry))) ≡ instruction (now (map .entry)) o c (both (now (mem .entry)) (now (marks .entry)))) ⌝ }
 {
-    match regions::find(map, regions::FETCH, pc) {
+    match regions::find(map, sizes, regions::FETCH, pc) {
         Spot::At(p) => {
             let h = memory::fetch(mem, marks, p);
             if h.mark {
@@ -175,7 +191,7 @@ fn fetch(map: &[u32; 16], pc: u32, mem: &[u8], marks: &[u8]) -> Fetched
             }
             let first = h.val as u16;
             if decode::is_long(first) {
-                return fetch_second(map, first, pc, extend::sum24(pc, 2), mem, marks);
+                return fetch_second(map, sizes, first, pc, extend::sum24(pc, 2), mem, marks);
             }
             Fetched {
                 answer: Answer::Done,
@@ -188,11 +204,19 @@ fn fetch(map: &[u32; 16], pc: u32, mem: &[u8], marks: &[u8]) -> Fetched
     }
 }
 
-fn fetch_second(map: &[u32; 16], first: u16, pc: u32, at: u32, mem: &[u8], marks: &[u8]) -> Fetched
-    requires { ⌜ Ready (now map) (now mem) (now marks) × (at % 2 ≡ 0) ⌝ }
+fn fetch_second(
+    map: &[u32; 16],
+    sizes: &[u32; 12],
+    first: u16,
+    pc: u32,
+    at: u32,
+    mem: &[u8],
+    marks: &[u8],
+) -> Fetched
+    requires { ⌜ Prepared (now map) (now sizes) (now mem) (now marks) × (at % 2 ≡ 0) ⌝ }
     ensures { λ r. ⌜ ((o : Open) (c : Cells) → o .pc ≡ pc → fetched r (now (map .entry)) o c (both (now (mem .entry)) (now (marks .entry))) ≡ fetch at (now (map .entry)) o c (both (now (mem .entry)) (now (marks .entry))) (λ w. execute (decode first w) (now (map .entry)) o c (both (now (mem .entry)) (now (marks .entry))))) ⌝ }
 {
-    match regions::find(map, regions::FETCH, at) {
+    match regions::find(map, sizes, regions::FETCH, at) {
         Spot::At(p) => {
             let h = memory::fetch(mem, marks, p);
             if h.mark {
@@ -212,21 +236,23 @@ fn fetch_second(map: &[u32; 16], first: u16, pc: u32, at: u32, mem: &[u8], marks
 // The instruction at PC.
 fn instruction(
     map: &[u32; 16],
+    sizes: &[u32; 12],
     o: Packed,
     cells: &mut [u32; 38],
     tags: &mut [u8; 38],
     mem: &mut [u8],
     marks: &mut [u8],
 ) -> Out
-    requires { ⌜ Ready (now map) (now mem) (now marks) × (openOf o .pc % 2 ≡ 0) ⌝ }
+    requires { ⌜ Prepared (now map) (now sizes) (now mem) (now marks) × (openOf o .pc % 2 ≡ 0) ⌝ }
     ensures { λ r. ⌜ after (wentOf r) (both (now (cells .exit)) (now (tags .exit))) (both (now (mem .exit)) (now (marks .exit))) ≡ instruction (now (map .entry)) (openOf o) (both (now (cells .entry)) (now (tags .entry))) (both (now (mem .entry)) (now (marks .entry))) ⌝ }
 {
-    let f = fetch(map, core::pc(o), &*mem, &*marks);
+    let f = fetch(map, sizes, core::pc(o), &*mem, &*marks);
     let answer = f.answer;
     match answer {
         Answer::Done => execute(
             decode::decode(f.first, f.second),
             map,
+            sizes,
             o,
             cells,
             tags,
@@ -244,13 +270,14 @@ fn instruction(
 // One step: an NMI, a maskable code, HALT, and else the instruction. Mostly nothing waits, and one test says so.
 pub fn step(
     map: &[u32; 16],
+    sizes: &[u32; 12],
     o: Packed,
     cells: &mut [u32; 38],
     tags: &mut [u8; 38],
     mem: &mut [u8],
     marks: &mut [u8],
 ) -> Out
-    requires { ⌜ Ready (now map) (now mem) (now marks) × WellFormed (openOf o) (both (now cells) (now tags)) ⌝ }
+    requires { ⌜ Prepared (now map) (now sizes) (now mem) (now marks) × WellFormed (openOf o) (both (now cells) (now tags)) ⌝ }
     ensures { λ r. ⌜ after (wentOf r) (both (now (cells .exit)) (now (tags .exit))) (both (now (mem .exit)) (now (marks .exit))) ≡ step (now (map .entry)) (openOf o) (both (now (cells .entry)) (now (tags .entry))) (both (now (mem .entry)) (now (marks .entry))) ⌝ }
 {
     if core::waits(o) {
@@ -275,5 +302,5 @@ pub fn step(
             };
         }
     }
-    instruction(map, o, cells, tags, mem, marks)
+    instruction(map, sizes, o, cells, tags, mem, marks)
 }

@@ -9,6 +9,7 @@ use crate::exec;
 use machine::Answer;
 use machine::Open;
 use machine::Ran;
+use state::regions;
 
 pub fn run(
     budget: u32,
@@ -22,10 +23,11 @@ pub fn run(
     requires { ⌜ Ready (now map) (now mem) (now marks) × WellFormed start (both (now cells) (now tags)) ⌝ }
     ensures { λ r. ⌜ record { ran = r; cells = both (now (cells .exit)) (now (tags .exit)); mem = both (now (mem .exit)) (now (marks .exit)) } ≡ run budget 0 (now (map .entry)) start (both (now (cells .entry)) (now (tags .entry))) (both (now (mem .entry)) (now (marks .entry))) ⌝ }
 {
+    let sizes = regions::sizes(map);
     let mut o = core::pack(start);
     let mut n: u32 = 0;
     while n < budget {
-        let w = exec::step(map, o, cells, tags, mem, marks);
+        let w = exec::step(map, &sizes, o, cells, tags, mem, marks);
         let answer = w.answer;
         match answer {
             Answer::Done => {

@@ -1,5 +1,6 @@
-use mathlib.Core.Path.{refl, sym, _∙_}
 use native.Mathlib.Omega.{arith}
+use Rattle.step.specs.StepLaws.{finds}
+use mathlib.Core.Path.{refl, sym, _∙_}
 use denote.Ref.{now}
 use Rattle.step.specs.FetchLaws.{not-fetched, next-even, half-small, half-fits, fetch-nowhere, fetch-secret, instruction-long, instruction-short}
 use Rattle.machine.specs.Step.{instruction}
@@ -17,7 +18,7 @@ use Rattle.word.proofs.extend.sum24.Reads as sum24-reads
 
 -- src/exec.rt:170:11
 find-requires : tie.Need-find-requires
-find-requires c κs = search needs
+find-requires c κs = finds (c .before .before .pre .0) (omega arith)
 
 -- src/exec.rt:171:18
 enum-known-p : tie.Need-enum-known-p

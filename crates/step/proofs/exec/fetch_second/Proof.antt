@@ -1,5 +1,6 @@
-use mathlib.Core.Path.{refl, sym, _∙_}
 use native.Mathlib.Omega.{arith}
+use Rattle.step.specs.StepLaws.{finds}
+use mathlib.Core.Path.{refl, sym, _∙_}
 use denote.Ref.{now}
 use Rattle.step.specs.FetchLaws.{not-fetched, half-small, half-fits, fetch-nowhere, fetch-secret, fetch-found}
 use borrow.Author.Needs.{needs}
@@ -13,7 +14,7 @@ use Rattle.step.proofs.exec.unfetched.Reads as unfetched-reads
 
 -- src/exec.rt:195:11
 find-requires : tie.Need-find-requires
-find-requires c κs = search needs
+find-requires c κs = finds (c .before .before .pre .0) (omega arith)
 
 -- src/exec.rt:196:18
 enum-known-p : tie.Need-enum-known-p
@@ -33,8 +34,8 @@ returns c = λ o cs e. not-fetched (c .unfetched .result) _ o (c .unfetched .ens
     (fetch-secret (now (c .before .before .before .before .before .before .before .before .before .args .map)) (c .before .before .before .before .before .before .before .before .before .args .at) (c .before .before .before .before .before .before .before .before .before .pre .1) (c .before .before .before .before .before .before .find .ensures) o cs _ refl _ (c .before .before .before .before .p .given .1) (c .before .before .fetch .ensures) (c .before .if1 .taken))
 
 -- src/exec.rt:205:25
-cast-t14 : tie.Need-cast-t14
-cast-t14 c = omega (arith, half-small (now (c .before .before .before .before .before .before .before .before .before .args .mem)) (now (c .before .before .before .before .before .before .before .before .before .args .marks)) (c .before .before .before .before .p .given .0 .0) (λ i. omega (arith, c .before .before .before .before .before .before .before .before .shared-slice-known .given i)) (c .before .before .fetch .ensures))
+cast-t15 : tie.Need-cast-t15
+cast-t15 c = omega (arith, half-small (now (c .before .before .before .before .before .before .before .before .before .args .mem)) (now (c .before .before .before .before .before .before .before .before .before .args .marks)) (c .before .before .before .before .p .given .0 .0) (λ i. omega (arith, c .before .before .before .before .before .before .before .before .shared-slice-known .given i)) (c .before .before .fetch .ensures))
 
 -- src/exec.rt:208:36
 enum-told : tie.Need-enum-told
@@ -62,7 +63,7 @@ fetch-second-spec =
     fetch-requires
     unfetched-requires
     returns
-    cast-t14
+    cast-t15
     enum-told
     unfetched-requires-2
     returns-2
