@@ -95,9 +95,10 @@ pub fn set_z(z: bool, mark: bool, cells: &mut [u32; 38], tags: &mut [u8; 38])
 pub fn condition(k: u32, cells: &[u32; 38], tags: &[u8; 38]) -> Tv
     ensures { λ r. ⌜ r ≡ condition k (both (now (cells .entry)) (now (tags .entry))) ⌝ }
 {
+    let j = flags::judge(k, cells[FLAGS], wide(tags[FLAGS]));
     Tv {
-        val: on(flags::holds(k, cells[FLAGS]), 1),
-        mark: flags::reads(k, wide(tags[FLAGS])),
+        val: on(j.holds, 1),
+        mark: j.reads,
     }
 }
 
