@@ -1,0 +1,5 @@
+pub mod Text
+pub mod TextLaws
+pub mod Line
+pub mod LineLaws
+pub mod Samples

@@ -1,0 +1,74 @@
+// The input as a memory, and its run from reset.
+ghost use mathlib.Core.Path.{_≡_};
+ghost use Prim.Native.Nat.{_+_, _*_, _^_, _≤_, _<_};
+ghost use lib.ListN.{length};
+ghost use Rattle.v850.specs.Block.{wordAt};
+ghost use Rattle.bench_line.specs.Line.{IMAGE, padded, startBlock, noReport, Leaves, ran};
+use crate::text;
+use v850::entry;
+
+const IMAGE: usize = 4096;
+
+const BUDGET: u32 = 1000;
+
+// The answer to an input that is too long.
+const SIZE: u32 = 1;
+
+// The two bytes of the map that are not 0, in region 0: the length's second one, and the rights.
+const LENGTH_1: usize = 177;
+
+const RIGHTS: usize = 184;
+
+// The input, and zeros behind it.
+fn padded(input: &[u8]) -> [u8; IMAGE]
+    requires { ⌜ length (now input) ≤ IMAGE ⌝ }
+    ensures { λ r. ⌜ r ≡ padded (now (input .entry)) ⌝ }
+{
+    let mut image = [0u8; IMAGE];
+    text::put(&mut image, 0, input);
+    image
+}
+
+// The block of the reset state, with all of the memory at address 0 and all rights.
+pub fn start_block() -> [u8; 236]
+    ensures { λ r. ⌜ r ≡ startBlock ⌝ }
+{
+    let mut block = [0u8; 236];
+    block[LENGTH_1] = 0x10;
+    block[RIGHTS] = 7;
+    entry::v850_reset(&mut block);
+    block
+}
+
+// Runs the input from the reset state. Input that is too long is not run.
+pub fn run(input: &[u8], block: &mut [u8], report: &mut [u8]) -> u32
+    requires { ⌜ (now block ≡ startBlock) × (now report ≡ noReport) ⌝ }
+    ensures { λ r. ⌜ Leaves (ran (now (input .entry))) r (now (block .exit)) (now (report .exit)) ⌝ }
+{
+    if input.len() > IMAGE {
+        return SIZE;
+    }
+    let mut memory = padded(input);
+    let mut marks = [0u8; IMAGE];
+    entry::v850_run(block, &mut memory, &mut marks, report, BUDGET)
+}
+
+// A byte as a word.
+fn wide(x: u8) -> u32
+    ensures { λ r. ⌜ (r ≡ x) × (r < 2 ^ 8) ⌝ }
+{
+    x as u32
+}
+
+// Word i of the block or of the report.
+pub fn word(b: &[u8], i: usize) -> u32
+    requires { ⌜ 4 * i + 3 < length (now b) ⌝ }
+    ensures { λ r. ⌜ r ≡ wordAt (now (b .entry)) i ⌝ }
+{
+    let k = 4 * i;
+    let b0 = wide(b[k]);
+    let b1 = wide(b[k + 1]);
+    let b2 = wide(b[k + 2]);
+    let b3 = wide(b[k + 3]);
+    b0 + 256 * (b1 + 256 * (b2 + 256 * b3))
+}
