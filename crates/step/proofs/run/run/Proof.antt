@@ -39,8 +39,15 @@ pack-requires c κs = formed-fits (c .before .before .before .pre .1)
 
 -- src/run.rt:29:5
 loop-holds : tie.Need-loop-holds Inv-loop μ-loop
-loop-holds c = (omega arith, record { ready = c .before .before .before .before .pre .0; seen = c .before .sizes .ensures }, rw (c .pack .ensures) (c .before .before .before .before .pre .1), record { small = λ i. omega (arith, c .before .before .before .slice-known .given i) }, refl, refl,
-    let e : c .before .before .before .before .args .budget - 0 ≡ c .before .before .before .before .args .budget = omega arith in rw e)
+loop-holds c = (
+  omega arith,
+  record { ready = c .before .before .before .before .pre .0; seen = c .before .sizes .ensures },
+  rw (c .pack .ensures) (c .before .before .before .before .pre .1),
+  record { small = λ i. omega (arith, c .before .before .before .slice-known .given i) },
+  refl,
+  refl,
+  let e : c .before .before .before .before .args .budget - 0 ≡ c .before .before .before .before .args .budget = omega arith in rw e,
+)
 
 -- src/run.rt:30:13
 step-requires : tie.Need-step-requires Inv-loop μ-loop
@@ -62,9 +69,15 @@ loop-less c = omega arith
 loop-again : tie.Need-loop-again Inv-loop μ-loop
 loop-again c = let t = ap goesOn (c .before .enum-told .given .1) in
     let k = c .before .before .before .before .before .before .before .step .kept .1 .1 .1 .1 .1 in
-    let f = on-well-formed (now (c .before .before .before .before .before .before .before .before .before .before .before .before .before .before .before .before .before .before .before .args .map)) (openOf (c .before .before .before .before .before .before .before .before .before .before .before .before .before .before .loop .o)) (both (c .before .before .before .before .before .before .before .before .before .before .before .before .before .before .loop .cells) (c .before .before .before .before .before .before .before .before .before .before .before .before .before .before .loop .tags)) (both (c .before .before .before .before .before .before .before .before .before .before .before .before .before .before .loop .mem) (c .before .before .before .before .before .before .before .before .before .before .before .before .before .before .loop .marks)) (c .before .before .before .before .before .before .before .step .result) (c .before .before .before .before .before .before .before .step .ensures) t (c .before .before .before .before .before .before .before .before .before .before .before .before .before .before .loop .inv .2) (c .before .before .before .before .before .before .before .before .before .before .before .before .before .before .loop .inv .3) in
-    (omega arith, still-prepared (c .before .before .before .before .before .before .before .before .before .before .before .before .before .before .loop .inv .1) (k .0) (k .1 .0), f .0, f .1, k .0 ∙ c .before .before .before .before .before .before .before .before .before .before .before .before .before .before .loop .inv .4, k .1 .0 ∙ c .before .before .before .before .before .before .before .before .before .before .before .before .before .before .loop .inv .5,
-    run-on (c .before .before .before .before .before .before .before .before .before .before .before .before .before .before .before .before .before .before .before .args .budget) (c .before .before .before .before .before .before .before .before .before .before .before .before .before .before .loop .n) (now (c .before .before .before .before .before .before .before .before .before .before .before .before .before .before .before .before .before .before .before .args .map)) (openOf (c .before .before .before .before .before .before .before .before .before .before .before .before .before .before .loop .o)) (both (c .before .before .before .before .before .before .before .before .before .before .before .before .before .before .loop .cells) (c .before .before .before .before .before .before .before .before .before .before .before .before .before .before .loop .tags)) (both (c .before .before .before .before .before .before .before .before .before .before .before .before .before .before .loop .mem) (c .before .before .before .before .before .before .before .before .before .before .before .before .before .before .loop .marks)) (c .before .before .before .before .before .before .before .step .result) (omega arith) t (c .before .before .before .before .before .before .before .step .ensures) ∙ c .before .before .before .before .before .before .before .before .before .before .before .before .before .before .loop .inv .6)
+    let f = on-well-formed (now (c .before .before .before .before .before .before .before .before .before .before .before .before .before .before .before .before .before .before .before .args .map)) (openOf (c .before .before .before .before .before .before .before .before .before .before .before .before .before .before .loop .o)) (both (c .before .before .before .before .before .before .before .before .before .before .before .before .before .before .loop .cells) (c .before .before .before .before .before .before .before .before .before .before .before .before .before .before .loop .tags)) (both (c .before .before .before .before .before .before .before .before .before .before .before .before .before .before .loop .mem) (c .before .before .before .before .before .before .before .before .before .before .before .before .before .before .loop .marks)) (c .before .before .before .before .before .before .before .step .result) (c .before .before .before .before .before .before .before .step .ensures) t (c .before .before .before .before .before .before .before .before .before .before .before .before .before .before .loop .inv .2) (c .before .before .before .before .before .before .before .before .before .before .before .before .before .before .loop .inv .3) in (
+      omega arith,
+      still-prepared (c .before .before .before .before .before .before .before .before .before .before .before .before .before .before .loop .inv .1) (k .0) (k .1 .0),
+      f .0,
+      f .1,
+      k .0 ∙ c .before .before .before .before .before .before .before .before .before .before .before .before .before .before .loop .inv .4,
+      k .1 .0 ∙ c .before .before .before .before .before .before .before .before .before .before .before .before .before .before .loop .inv .5,
+      run-on (c .before .before .before .before .before .before .before .before .before .before .before .before .before .before .before .before .before .before .before .args .budget) (c .before .before .before .before .before .before .before .before .before .before .before .before .before .before .loop .n) (now (c .before .before .before .before .before .before .before .before .before .before .before .before .before .before .before .before .before .before .before .args .map)) (openOf (c .before .before .before .before .before .before .before .before .before .before .before .before .before .before .loop .o)) (both (c .before .before .before .before .before .before .before .before .before .before .before .before .before .before .loop .cells) (c .before .before .before .before .before .before .before .before .before .before .before .before .before .before .loop .tags)) (both (c .before .before .before .before .before .before .before .before .before .before .before .before .before .before .loop .mem) (c .before .before .before .before .before .before .before .before .before .before .before .before .before .before .loop .marks)) (c .before .before .before .before .before .before .before .step .result) (omega arith) t (c .before .before .before .before .before .before .before .step .ensures) ∙ c .before .before .before .before .before .before .before .before .before .before .before .before .before .before .loop .inv .6,
+    )
 
 -- src/run.rt:41:23
 unpack-requires : tie.Need-unpack-requires Inv-loop μ-loop

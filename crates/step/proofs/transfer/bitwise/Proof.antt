@@ -7,6 +7,7 @@ use Rattle.insn.specs.declared.Size.the-variants.{Byte}
 use Rattle.machine.specs.Step.{bitwise}
 use Rattle.step.proofs.transfer.bitwise.Statement.{statement}
 use Rattle.step.proofs.transfer.bitwise.Tie as tie
+
 -- The proof goes the way of the definition: the base revealed, its address placed to read, and, where it does not only test, to write.
 
 reg-requires : tie.Need-reg-requires
