@@ -1,3 +1,4 @@
+-- What is found from region 0 on is what is found from region k on: the regions before k do not cover the address.
 use borrow.Author.Needs.{needs}
 use mathlib.Core.Path.{_≡_, refl, sym, _∙_}
 use native.Mathlib.Omega.{arith}
@@ -10,12 +11,6 @@ use Rattle.state.specs.WindowLaws.{inside, outside}
 use Rattle.state.proofs.Search.{hit, miss}
 use Rattle.state.proofs.regions.find.Statement.{statement}
 use Rattle.state.proofs.regions.find.Tie as tie
-use Rattle.state.proofs.regions.find.Reads as reads
-use Rattle.state.proofs.regions.find.Lts as lts
-use Rattle.state.proofs.regions.base.Reads as base-reads
-use Rattle.state.proofs.regions.offset.Reads as offset-reads
-use Rattle.state.proofs.regions.size_to.Reads as size-to-reads
-use Rattle.word.proofs.sums.difference.Reads as difference-reads
 
 abbrev Inv-loop : tie.InvT-loop
 Inv-loop map sizes right a k₀ k = (k ≤ 4) × (findFrom map (2 ^ right) a 4 0 ≡ findFrom map (2 ^ right) a (4 - k) k)
@@ -23,60 +18,61 @@ Inv-loop map sizes right a k₀ k = (k ≤ 4) × (findFrom map (2 ^ right) a 4 0
 abbrev μ-loop : tie.MeasureT-loop
 μ-loop map sizes right a k₀ k = 4 - k
 
--- src/regions.rt:93:5
 loop-holds : tie.Need-loop-holds Inv-loop μ-loop
 loop-holds c = (omega arith, refl)
 
--- src/regions.rt:94:37
 base-requires : tie.Need-base-requires Inv-loop μ-loop
 base-requires c κs = search needs
 
--- src/regions.rt:94:13
 difference-requires : tie.Need-difference-requires Inv-loop μ-loop
 difference-requires c κs = search needs
 
--- src/regions.rt:95:16
 size-to-requires : tie.Need-size-to-requires Inv-loop μ-loop
-size-to-requires c κs = (c .before .before .before .before .pre .0, omega arith)
+size-to-requires c κs =
+    let pre′ = c .before .before .before .before .pre in
+    (pre′ .0, omega arith)
 
--- src/regions.rt:96:29
 offset-requires : tie.Need-offset-requires Inv-loop μ-loop
 offset-requires c κs = search needs
 
--- src/regions.rt:96:29
 cast-t10 : tie.Need-cast-t10 Inv-loop μ-loop
 cast-t10 c = search needs
 
--- src/regions.rt:96:55
 cast-t11 : tie.Need-cast-t11 Inv-loop μ-loop
 cast-t11 c = search needs
 
--- src/regions.rt:96:29
 add-t12 : tie.Need-add-t12 Inv-loop μ-loop
 add-t12 c = search needs
 
--- src/regions.rt:96:13
 returns : tie.Need-returns Inv-loop μ-loop
-returns c = let d : c .before .before .before .difference .result ≡ difference (c .before .before .before .before .before .before .before .args .a) (base (now (c .before .before .before .before .before .before .before .args .map)) (c .before .before .before .before .before .before .loop .k)) = c .before .before .before .difference .ensures ∙ rw (c .before .before .before .before .base .ensures) in
-    let s : c .before .before .size-to .result ≡ seen (now (c .before .before .before .before .before .before .before .args .map)) (c .before .before .before .before .before .before .before .args .right) (c .before .before .before .before .before .before .loop .k) = c .before .before .size-to .ensures ∙ c .before .before .before .before .before .before .before .pre .1 .each (c .before .before .before .before .before .before .before .args .right) (c .before .before .before .before .before .before .loop .k) (c .before .before .before .before .before .before .before .pre .0) (omega arith) in
-    let h = inside (now (c .before .before .before .before .before .before .before .args .map)) (c .before .before .before .before .before .before .before .args .right) (c .before .before .before .before .before .before .before .args .a) (c .before .before .before .before .before .before .loop .k) (c .before .before .before .before .before .before .before .pre .2 (c .before .before .before .before .before .before .loop .k) (omega arith)) (omega arith) (rw (← d, ← s) (c .before .if1 .taken)) in
-    rw (c .offset .ensures, d, h .1) (sym (c .before .before .before .before .before .before .loop .inv .1 ∙ hit _ _ _ _ (omega arith) (h .0)))
+returns c =
+    let args′ = c .before .before .before .before .before .before .before .args in
+    let pre′ = c .before .before .before .before .before .before .before .pre in
+    let loop′ = c .before .before .before .before .before .before .loop in
+    let base′ = c .before .before .before .before .base in
+    let difference′ = c .before .before .before .difference in
+    let size-to′ = c .before .before .size-to in
+    let d : difference′ .result ≡ difference (args′ .a) (base (now (args′ .map)) (loop′ .k)) = difference′ .ensures ∙ rw (base′ .ensures) in
+    let s : size-to′ .result ≡ seen (now (args′ .map)) (args′ .right) (loop′ .k) = size-to′ .ensures ∙ pre′ .1 .each (args′ .right) (loop′ .k) (pre′ .0) (omega arith) in
+    let h = inside (now (args′ .map)) (args′ .right) (args′ .a) (loop′ .k) (pre′ .2 (loop′ .k) (omega arith)) (omega arith) (rw (← d, ← s) (c .before .if1 .taken)) in
+    rw (c .offset .ensures, d, h .1) (sym (loop′ .inv .1 ∙ hit _ _ _ _ (omega arith) (h .0)))
 
--- src/regions.rt:98:9
 add-k : tie.Need-add-k Inv-loop μ-loop
 add-k c = search needs
 
--- src/regions.rt:93:5
 loop-less : tie.Need-loop-less Inv-loop μ-loop
 loop-less c = omega arith
 
--- src/regions.rt:93:5
 loop-again : tie.Need-loop-again Inv-loop μ-loop
-loop-again c = let d : c .before .before .difference .result ≡ difference (c .before .before .before .before .before .before .args .a) (base (now (c .before .before .before .before .before .before .args .map)) (c .before .before .before .before .before .loop .k)) = c .before .before .difference .ensures ∙ rw (c .before .before .before .base .ensures) in
-    let s : c .before .size-to .result ≡ seen (now (c .before .before .before .before .before .before .args .map)) (c .before .before .before .before .before .before .args .right) (c .before .before .before .before .before .loop .k) = c .before .size-to .ensures ∙ c .before .before .before .before .before .before .pre .1 .each (c .before .before .before .before .before .before .args .right) (c .before .before .before .before .before .loop .k) (c .before .before .before .before .before .before .pre .0) (omega arith) in
-    (omega arith, c .before .before .before .before .before .loop .inv .1 ∙ miss _ _ _ _ (omega arith) (outside (now (c .before .before .before .before .before .before .args .map)) (c .before .before .before .before .before .before .args .right) (c .before .before .before .before .before .before .args .a) (c .before .before .before .before .before .loop .k) (c .before .before .before .before .before .before .pre .2 (c .before .before .before .before .before .loop .k) (omega arith)) (omega arith) (rw (← d, ← s) (c .if1 .left))))
+loop-again c =
+    let args′ = c .before .before .before .before .before .before .args in
+    let pre′ = c .before .before .before .before .before .before .pre in
+    let loop′ = c .before .before .before .before .before .loop in
+    let difference′ = c .before .before .difference in
+    let d : difference′ .result ≡ difference (args′ .a) (base (now (args′ .map)) (loop′ .k)) = difference′ .ensures ∙ rw (c .before .before .before .base .ensures) in
+    let s : c .before .size-to .result ≡ seen (now (args′ .map)) (args′ .right) (loop′ .k) = c .before .size-to .ensures ∙ pre′ .1 .each (args′ .right) (loop′ .k) (pre′ .0) (omega arith) in
+    (omega arith, loop′ .inv .1 ∙ miss _ _ _ _ (omega arith) (outside (now (args′ .map)) (args′ .right) (args′ .a) (loop′ .k) (pre′ .2 (loop′ .k) (omega arith)) (omega arith) (rw (← d, ← s) (c .if1 .left))))
 
--- src/regions.rt:88:1
 returns-2 : tie.Need-returns-2 Inv-loop μ-loop
 unfolding findFrom
 returns-2 c = let e : c .before .loop .k ≡ 4 = omega arith in sym (rw e at (c .before .loop .inv .1))

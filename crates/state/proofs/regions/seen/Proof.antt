@@ -1,29 +1,21 @@
+-- A region without the right is seen with size 0.
 use borrow.Author.Tests.{eq-eqb, ne-eqb}
 use borrow.Author.Needs.{needs}
 use Rattle.state.proofs.regions.seen.Statement.{statement}
 use Rattle.state.proofs.regions.seen.Tie as tie
-use Rattle.state.proofs.regions.seen.Reads as reads
-use Rattle.state.proofs.regions.seen.Lts as lts
-use Rattle.state.proofs.regions.rights.Reads as rights-reads
-use Rattle.state.proofs.regions.size.Reads as size-reads
 
--- src/regions.rt:49:9
 rights-requires : tie.Need-rights-requires
 rights-requires c κs = search needs
 
--- src/regions.rt:49:9
 shr-if1 : tie.Need-shr-if1
 shr-if1 c = search needs
 
--- src/regions.rt:50:9
 size-requires : tie.Need-size-requires
 size-requires c κs = search needs
 
--- src/regions.rt:45:1
 returns : tie.Need-returns
 returns c = rw (eq-eqb _ _ (rw (c .before .before .rights .ensures) at (c .before .if1 .taken))) (c .size .ensures)
 
--- src/regions.rt:45:1
 returns-2 : tie.Need-returns-2
 returns-2 c = rw (ne-eqb _ _ (rw (c .before .rights .ensures) at (c .if1 .left)))
 

@@ -1,11 +1,9 @@
+-- A PC of 32 bits is kept as it is.
 use native.Mathlib.Omega.{arith}
 use Rattle.step.specs.CoreLaws.{goto-packed}
 use Rattle.step.proofs.core.goto.Statement.{statement}
 use Rattle.step.proofs.core.goto.Tie as tie
-use Rattle.step.proofs.core.goto.Reads as reads
-use Rattle.step.proofs.core.goto.Lts as lts
 
--- src/core.rt:35:1
 returns : tie.Need-returns
 returns c = goto-packed (c .args .pc) (c .args .c .pc) (c .args .c .rest) (omega arith)
 

@@ -1,31 +1,23 @@
+-- What went on fits by the contract; what was refused has no state to pack.
 use mathlib.Core.Path.{ap, _∙_}
 use Rattle.step.specs.Tasks.{goesOn}
 use Rattle.step.proofs.Answers.{stops}
 use borrow.Author.Needs.{needs}
 use Rattle.step.proofs.core.settle.Statement.{statement}
 use Rattle.step.proofs.core.settle.Tie as tie
-use Rattle.step.proofs.core.settle.Reads as reads
-use Rattle.step.proofs.core.settle.Lts as lts
-use Rattle.step.proofs.core.pack.Reads as close-reads
-use Rattle.step.proofs.core.next.Reads as next-reads
 
--- src/core.rt:132:30
 enum-told : tie.Need-enum-told
 enum-told c = search needs
 
--- src/core.rt:132:30
 pack-requires : tie.Need-pack-requires
 pack-requires c κs = c .before .before .pre (ap goesOn (c .enum-told .given .1))
 
--- src/core.rt:132:25
 next-requires : tie.Need-next-requires
 next-requires c κs = search needs
 
--- src/core.rt:126:1
 returns : tie.Need-returns
 returns c = c .next .ensures ∙ rw (c .before .pack .ensures, c .before .before .enum-told .given .1)
 
--- src/core.rt:126:1
 returns-2 : tie.Need-returns-2
 returns-2 c = rw (stops (c .before .args .w .answer) (c .match .keys2))
 
