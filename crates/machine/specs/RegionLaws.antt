@@ -82,7 +82,7 @@ pub found : (map : List ℕ) (right a p : ℕ) → find map right a ≡ At p →
 found map right a p e = found-from map right a p 4 0 (omega arith) e
 
 -- by cases on a region's number
-four : (P : ℕ → Type 0) → P 0 → P 1 → P 2 → P 3 → (k : ℕ) → k < 4 → P k
+pub four : (P : ℕ → Type 0) → P 0 → P 1 → P 2 → P 3 → (k : ℕ) → k < 4 → P k
 four P a b c d zero l = a
 four P a b c d (suc zero) l = b
 four P a b c d (suc (suc zero)) l = c

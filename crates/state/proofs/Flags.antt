@@ -3,6 +3,7 @@ use mathlib.Core.Path.{_≡_, refl, sym, ap, ap₂, _∙_}
 use mathlib.Core.Bool.{Bool, true, false, cond, _||_}
 use Prim.Native.Nat.{ℕ, zero, suc, _+_, _*_, _/_, _%_, _^_, _<_}
 use native.Mathlib.Omega.{arith}
+use lib.Bits.{bitOr}
 use lib.Dec.{eqb}
 use lib.ListN.{getD, set}
 use lib.Pow.{shr-shr, mod-pow-add}
@@ -80,6 +81,29 @@ all Divide false = refl
 all Arith false = refl
 all Saturate false = refl
 
+-- where nothing is marked, and nothing becomes so, the marks are 0 after as before
+pub none : (k : Kind) {mark : Bool} {n : ℕ} → mark ≡ false → n ≡ 0 → cond mark (new k (everyFlag true)) 0 + stay k (everyFlag mark) n ≡ 0
+none k e z = ap₂ (λ (b : Bool) (x : ℕ). cond b (new k (everyFlag true)) 0 + stay k (everyFlag b) x) e z ∙ at-rest k
+  where
+    at-rest : (l : Kind) → 0 + stay l (everyFlag false) 0 ≡ 0
+    at-rest Quiet = refl
+    at-rest Logic = refl
+    at-rest Mask = refl
+    at-rest Shift = refl
+    at-rest Divide = refl
+    at-rest Arith = refl
+    at-rest Saturate = refl
+
+-- SAT as an operation raises it
+pub raised : (b : Bool) (n : ℕ) → bitOr (n / 16 % 2 * 16) (cond b 16 0) ≡ cond (bit 4 n || b) 16 0
+raised b n = at-bit b (n / 16 % 2) (omega arith)
+  where
+    at-bit : (t : Bool) (r : ℕ) → r < 2 → bitOr (r * 16) (cond t 16 0) ≡ cond (eqb r 1 || t) 16 0
+    at-bit t zero h = refl
+    at-bit true (suc zero) h = refl
+    at-bit false (suc zero) h = refl
+    at-bit t (suc (suc r)) h = omega arith
+
 -- the flags' cells after an operation that sets flags
 pub set-flags : (k : Kind) → quiet k ≡ false → (a : Computed) (mark : Bool) (c : Cells) →
     both (set (c .nums) 37 (new k (told a) + stay k (told a) (getD (c .nums) 37 0)))
@@ -91,6 +115,9 @@ set-flags k q a mark c =
     (ap₂ (λ (x y : ℕ). both (set (c .nums) 37 x) (set (c .marks) 37 y))
     (follows k (told a) _)
     (ap (λ (x : ℕ). x + stay k (everyFlag mark) (getD (c .marks) 37 0)) (all k mark) ∙ follows k (everyFlag mark) _))
+
+pub no-z : {mark : Bool} {n : ℕ} → mark ≡ false → n ≡ 0 → cond mark 1 0 + n / 2 % 16 * 2 ≡ 0
+no-z e z = ap₂ (λ (b : Bool) (x : ℕ). cond b 1 0 + x / 2 % 16 * 2) e z
 
 pub set-z : (z mark : Bool) (c : Cells) →
     both (set (c .nums) 37 (cond z 1 0 + getD (c .nums) 37 0 / 2 % 16 * 2))

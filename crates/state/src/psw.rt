@@ -1,8 +1,9 @@
 // The flags, PSW and the saved PSWs. Cell 37 holds the flags as PSW bits 0 to 4, and its tag their marks, bit for bit.
 ghost use mathlib.Core.Path.{_≡_};
-ghost use mathlib.Core.Bool.{cond};
+ghost use mathlib.Core.Bool.{cond, false};
 ghost use mathlib.Core.List.{List};
 ghost use Prim.Native.Nat.{ℕ, _≤_, _<_};
+ghost use lib.ListN.{getD, set};
 ghost use Rattle.machine.specs.Marked.{both};
 ghost use Rattle.machine.specs.Psw.{PSW, sys, bits, bitsAt, putBits, setFlags, setZ, condition, psw, putPswFlags, mode, spread, gathered};
 use machine::Kind;
@@ -33,12 +34,22 @@ fn wide(m: u8) -> u32
     m as u32
 }
 
+// The flags' marks become m. Mostly nothing is or becomes marked, and one test says so: then they are 0 already, and nothing is written.
+fn put_marks(mark: bool, m: u8, tags: &mut [u8; 38])
+    requires { ⌜ (mark ≡ false → getD (now tags) (sys PSW) 0 ≡ 0 → m ≡ 0) ⌝ }
+    ensures { λ _. ⌜ now (tags .exit) ≡ set (now (tags .entry)) (sys PSW) m ⌝ }
+{
+    if mark | (tags[FLAGS] != 0) {
+        tags[FLAGS] = m;
+    }
+}
+
 // OV becomes 0; CY and SAT stay.
 pub fn logic_flags(a: Computed, mark: bool, cells: &mut [u32; 38], tags: &mut [u8; 38])
     ensures { λ _. ⌜ both (now (cells .exit)) (now (tags .exit)) ≡ setFlags Kind.Logic a mark (both (now (cells .entry)) (now (tags .entry))) ⌝ }
 {
     cells[FLAGS] = on(a.z, 1) + on(a.s, 2) + cells[FLAGS] / 8 % 4 * 8;
-    tags[FLAGS] = marks(mark, 3) + tags[FLAGS] / 8 % 4 * 8;
+    put_marks(mark, marks(mark, 3) + tags[FLAGS] / 8 % 4 * 8, tags);
 }
 
 // S and OV become 0; CY and SAT stay.
@@ -46,7 +57,7 @@ pub fn mask_flags(a: Computed, mark: bool, cells: &mut [u32; 38], tags: &mut [u8
     ensures { λ _. ⌜ both (now (cells .exit)) (now (tags .exit)) ≡ setFlags Kind.Mask a mark (both (now (cells .entry)) (now (tags .entry))) ⌝ }
 {
     cells[FLAGS] = on(a.z, 1) + cells[FLAGS] / 8 % 4 * 8;
-    tags[FLAGS] = marks(mark, 1) + tags[FLAGS] / 8 % 4 * 8;
+    put_marks(mark, marks(mark, 1) + tags[FLAGS] / 8 % 4 * 8, tags);
 }
 
 // OV becomes 0; SAT stays.
@@ -54,7 +65,7 @@ pub fn shift_flags(a: Computed, mark: bool, cells: &mut [u32; 38], tags: &mut [u
     ensures { λ _. ⌜ both (now (cells .exit)) (now (tags .exit)) ≡ setFlags Kind.Shift a mark (both (now (cells .entry)) (now (tags .entry))) ⌝ }
 {
     cells[FLAGS] = on(a.z, 1) + on(a.s, 2) + on(a.cy, 8) + cells[FLAGS] / 16 % 2 * 16;
-    tags[FLAGS] = marks(mark, 11) + tags[FLAGS] / 16 % 2 * 16;
+    put_marks(mark, marks(mark, 11) + tags[FLAGS] / 16 % 2 * 16, tags);
 }
 
 // CY and SAT stay.
@@ -62,7 +73,7 @@ pub fn divide_flags(a: Computed, mark: bool, cells: &mut [u32; 38], tags: &mut [
     ensures { λ _. ⌜ both (now (cells .exit)) (now (tags .exit)) ≡ setFlags Kind.Divide a mark (both (now (cells .entry)) (now (tags .entry))) ⌝ }
 {
     cells[FLAGS] = on(a.z, 1) + on(a.s, 2) + on(a.ov, 4) + cells[FLAGS] / 8 % 4 * 8;
-    tags[FLAGS] = marks(mark, 7) + tags[FLAGS] / 8 % 4 * 8;
+    put_marks(mark, marks(mark, 7) + tags[FLAGS] / 8 % 4 * 8, tags);
 }
 
 // SAT stays.
@@ -70,17 +81,17 @@ pub fn arith_flags(a: Computed, mark: bool, cells: &mut [u32; 38], tags: &mut [u
     ensures { λ _. ⌜ both (now (cells .exit)) (now (tags .exit)) ≡ setFlags Kind.Arith a mark (both (now (cells .entry)) (now (tags .entry))) ⌝ }
 {
     cells[FLAGS] = on(a.z, 1) + on(a.s, 2) + on(a.ov, 4) + on(a.cy, 8) + cells[FLAGS] / 16 % 2 * 16;
-    tags[FLAGS] = marks(mark, 15) + tags[FLAGS] / 16 % 2 * 16;
+    put_marks(mark, marks(mark, 15) + tags[FLAGS] / 16 % 2 * 16, tags);
 }
 
 // SAT is raised by OV, and its mark is added to.
 pub fn saturate_flags(a: Computed, mark: bool, cells: &mut [u32; 38], tags: &mut [u8; 38])
     ensures { λ _. ⌜ both (now (cells .exit)) (now (tags .exit)) ≡ setFlags Kind.Saturate a mark (both (now (cells .entry)) (now (tags .entry))) ⌝ }
 {
-    let sat = (cells[FLAGS] / 16 % 2 == 1) | a.ov;
+    let sat = (cells[FLAGS] / 16 % 2 * 16) | on(a.ov, 16);
     let sat_mark = (tags[FLAGS] / 16 % 2 == 1) | mark;
-    cells[FLAGS] = on(a.z, 1) + on(a.s, 2) + on(a.ov, 4) + on(a.cy, 8) + on(sat, 16);
-    tags[FLAGS] = marks(mark, 15) + marks(sat_mark, 16);
+    cells[FLAGS] = on(a.z, 1) + on(a.s, 2) + on(a.ov, 4) + on(a.cy, 8) + sat;
+    put_marks(mark, marks(mark, 15) + marks(sat_mark, 16), tags);
 }
 
 // Z alone.
@@ -88,16 +99,17 @@ pub fn set_z(z: bool, mark: bool, cells: &mut [u32; 38], tags: &mut [u8; 38])
     ensures { λ _. ⌜ both (now (cells .exit)) (now (tags .exit)) ≡ setZ z mark (both (now (cells .entry)) (now (tags .entry))) ⌝ }
 {
     cells[FLAGS] = on(z, 1) + cells[FLAGS] / 2 % 16 * 2;
-    tags[FLAGS] = marks(mark, 1) + tags[FLAGS] / 2 % 16 * 2;
+    put_marks(mark, marks(mark, 1) + tags[FLAGS] / 2 % 16 * 2, tags);
 }
 
 // Condition k as a value, marked if it reads a marked flag.
 pub fn condition(k: u32, cells: &[u32; 38], tags: &[u8; 38]) -> Tv
     ensures { λ r. ⌜ r ≡ condition k (both (now (cells .entry)) (now (tags .entry))) ⌝ }
 {
+    let j = flags::judge(k, cells[FLAGS], wide(tags[FLAGS]));
     Tv {
-        val: on(flags::holds(k, cells[FLAGS]), 1),
-        mark: flags::reads(k, wide(tags[FLAGS])),
+        val: on(j.holds, 1),
+        mark: j.reads,
     }
 }
 

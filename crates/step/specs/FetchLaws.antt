@@ -12,6 +12,7 @@ use Rattle.machine.specs.declared.Tv.{Tv}
 use Rattle.machine.specs.declared.Open.{Open}
 use Rattle.machine.specs.declared.Spot.{Spot}
 use Rattle.machine.specs.declared.Spot.the-variants.{At, Nowhere}
+use Rattle.machine.specs.declared.Answer.{Answer}
 use Rattle.machine.specs.declared.Answer.the-variants.{NoFetch, Leak}
 use Rattle.machine.specs.Marked.{liftAll, Cells, both}
 use Rattle.machine.specs.Regions.{FETCH, find}
@@ -19,7 +20,8 @@ use Rattle.machine.specs.Memory.{bytesAt, littleEndian}
 use Rattle.machine.specs.WellFormed.{Bytes}
 use Rattle.machine.specs.InvariantLaws.{half-lt}
 use Rattle.machine.specs.Step.{Outcome, refuse, execute, fetch, instruction}
-use Rattle.step.specs.Tasks.{Ready}
+use Rattle.step.specs.declared.Fetched.{Fetched}
+use Rattle.step.specs.Tasks.{Prepared, goesOn, fetched}
 use Rattle.step.specs.StepLaws.{opened, leaked, placed, nowhere, fits}
 
 cleared : (a b : ℕ) → a % 2 ≡ 0 → b ≡ a → a ≡ b / 2 * 2
@@ -33,9 +35,14 @@ pub half-small : (m k : List ℕ) (p : ℕ) {h : Tv} → ((i : ℕ) → getD m i
     → h ≡ liftAll littleEndian (bytesAt (both m k) p Half) → h .val < 2 ^ 16
 half-small m k p b e = rw e (half-lt {m = both m k} (record { small = b }) p)
 
+-- a fetch that is refused
+pub not-fetched : (f : Fetched) {a : Answer} {p : ℕ} (map : List ℕ) (o : Open) {c m : Cells} {x : Outcome} → f .answer ≡ a → f .place ≡ p → goesOn a ≡ false
+    → refuse a p c m ≡ x → fetched f map o c m ≡ x
+not-fetched f map o h k t q = rw (h, k, t) q
+
 module _ (map : List ℕ) (a : ℕ) (even : a % 2 ≡ 0) {s : Spot} (e : s ≡ find map FETCH a) where
   -- what is found lies in memory
-  pub half-fits : {mem marks : List ℕ} → Ready map mem marks → {p : ℕ} → s ≡ At p → (p + 2 ≤ length mem) × (length mem ≡ length marks)
+  pub half-fits : {sizes mem marks : List ℕ} → Prepared map sizes mem marks → {p : ℕ} → s ≡ At p → (p + 2 ≤ length mem) × (length mem ≡ length marks)
   half-fits r h = fits r Half FETCH a (cleared a a even refl) e h
 
   module _ (o : Open) (c m : Cells) {b : ℕ} (same : b ≡ a) (k : ℕ → Outcome) where

@@ -1,4 +1,5 @@
 pub mod Tasks
+pub mod CoreLaws
 pub mod StepLaws
 pub mod TaskLaws
 pub mod FetchLaws

@@ -1,20 +1,19 @@
 -- The order of a step's checks, from the tests that code makes one by one.
-use mathlib.Core.Path.{_≡_}
-use mathlib.Core.Bool.{true, false, and-false}
+use mathlib.Core.Path.{_≡_, refl}
+use mathlib.Core.Bool.{Bool, true, false, not, and-false, true≢false}
 use mathlib.Core.List.{List}
-use Prim.Native.Nat.{ℕ}
+use Prim.Native.Nat.{ℕ, _+_}
 use native.Mathlib.Omega.{arith}
 use lib.Dec.{eqb}
-use lib.Bits.{bitOr, or-add-and, and-le-l, and-le-r}
-use borrow.Author.Tests.{eq-eqb, ne-eqb}
+use borrow.Author.Tests.{eqb-true, eq-eqb, ne-eqb}
 use Rattle.machine.specs.declared.Open.{Open}
 use Rattle.machine.specs.declared.Answer.the-variants.{Asleep}
 use Rattle.machine.specs.Marked.{Cells}
 use Rattle.machine.specs.Step.{Outcome, refuse, instruction, nmiAccepted, codeAccepted, takeNmi, takeCode, step}
 
-or-none : (a b : ℕ) → bitOr a b ≡ 0 → (a ≡ 0) × (b ≡ 0)
-or-none a b e =
-    (omega (arith, or-add-and a b, and-le-l a b, and-le-r a b), omega (arith, or-add-and a b, and-le-l a b, and-le-r a b))
+not-no : (b : Bool) → not b ≡ false → b ≡ true
+not-no true e = refl
+not-no false e = absurd (true≢false e)
 
 module _ (o : Open) where
   pub nmi-taken : o .nmi ≡ 1 → o .np ≡ 0 → nmiAccepted o ≡ true
@@ -52,11 +51,10 @@ module _ (o : Open) where
     pub awake : eqb (o .halted) 1 ≡ false
 
   -- one test for all that may wait
-  pub none-waits : bitOr (bitOr (o .nmi) (o .code)) (o .halted) ≡ 0 → Clear
+  pub none-waits : not (eqb (o .code + o .nmi + o .halted) 0) ≡ false → Clear
   none-waits e =
-      let g = or-none (bitOr (o .nmi) (o .code)) (o .halted) e in
-      let h = or-none (o .nmi) (o .code) (g .0) in
-      record { nmi = no-nmi (λ e. omega (arith, h .0)); code = no-code (h .1); awake = ne-eqb (o .halted) 1 (λ e. omega (arith, g .1)) }
+      let z = eqb-true (o .code + o .nmi + o .halted) 0 (not-no _ e) in
+      record { nmi = no-nmi (λ e. omega arith); code = no-code (omega arith); awake = ne-eqb (o .halted) 1 (λ e. omega arith) }
 
 module _ (map : List ℕ) (o : Open) (c m : Cells) {x : Outcome} where
   pub step-nmi : nmiAccepted o ≡ true → x ≡ takeNmi o c m → x ≡ step map o c m

@@ -17,7 +17,7 @@ use Rattle.machine.specs.Run.{Ended, ended, carry, run}
 use Rattle.machine.specs.WellFormed.{WellFormed, Bytes}
 use Rattle.machine.specs.Invariants.{step-well-formed, step-lengths}
 use Rattle.step.specs.declared.Out.{Out}
-use Rattle.step.specs.Tasks.{goesOn, wentOf, Ready}
+use Rattle.step.specs.Tasks.{openOf, goesOn, wentOf, Prepared}
 
 left : (b n : ℕ) → n < b → b - n ≡ suc (b - (n + 1))
 left b n h = omega arith
@@ -40,7 +40,7 @@ module _ (b n : ℕ) (map : List ℕ) (o : Open) (c m : Cells) where
 
   -- the step w went on, or was refused
   pub run-on : (w : Out) {d q : Cells} → n < b → goesOn (w .answer) ≡ true → after (wentOf w) d q ≡ step map o c m
-      → run (b - (n + 1)) (n + 1) map (w .core) d q ≡ run (b - n) n map o c m
+      → run (b - (n + 1)) (n + 1) map (openOf (w .core)) d q ≡ run (b - n) n map o c m
   run-on w h t e = run-next h (rw t at e)
 
   pub run-stop : (w : Out) {d q : Cells} → n < b → goesOn (w .answer) ≡ false → after (wentOf w) d q ≡ step map o c m
@@ -48,14 +48,14 @@ module _ (b n : ℕ) (map : List ℕ) (o : Open) (c m : Cells) where
   run-stop w h t e = run-refused h (rw t at e)
 
 module _ (map : List ℕ) (o : Open) (c m : Cells) (w : Out) {d q : Cells} (e : after (wentOf w) d q ≡ step map o c m) where
-  pub on-well-formed : goesOn (w .answer) ≡ true → WellFormed o c → Bytes m → WellFormed (w .core) d × Bytes q
+  pub on-well-formed : goesOn (w .answer) ≡ true → WellFormed o c → Bytes m → WellFormed (openOf (w .core)) d × Bytes q
   on-well-formed t f b =
-      let e1 : next (w .core) d q ≡ step map o c m = rw t at e in
-      let g = step-well-formed map o c m f b (w .core) (ap (λ (x : Outcome). x .went) (sym e1)) in (
-        subst (λ (x : Cells). WellFormed (w .core) x) (ap (λ (x : Outcome). x .cells) (sym e1)) (g .0),
+      let e1 : next (openOf (w .core)) d q ≡ step map o c m = rw t at e in
+      let g = step-well-formed map o c m f b (openOf (w .core)) (ap (λ (x : Outcome). x .went) (sym e1)) in (
+        subst (λ (x : Cells). WellFormed (openOf (w .core)) x) (ap (λ (x : Outcome). x .cells) (sym e1)) (g .0),
         subst Bytes (ap (λ (x : Outcome). x .mem) (sym e1)) (g .1),
       )
 
--- memory and marks as long as they were are ready too
-pub still-ready : {map m k m₀ k₀ : List ℕ} → Ready map m₀ k₀ → length m ≡ length m₀ → length k ≡ length k₀ → Ready map m k
-still-ready r h j = record { good = rw h (r .good); same = h ∙ r .same ∙ sym j }
+-- memory and marks as long as they were are prepared too
+pub still-prepared : {map sizes m k m₀ k₀ : List ℕ} → Prepared map sizes m₀ k₀ → length m ≡ length m₀ → length k ≡ length k₀ → Prepared map sizes m k
+still-prepared p h j = record { ready = record { good = rw h (p .ready .good); same = h ∙ p .ready .same ∙ sym j }; seen = p .seen }

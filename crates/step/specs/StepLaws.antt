@@ -2,7 +2,7 @@
 use mathlib.Core.Path.{_≡_}
 use mathlib.Core.Bool.{true, false}
 use mathlib.Core.List.{List}
-use Prim.Native.Nat.{ℕ, _+_, _≤_}
+use Prim.Native.Nat.{ℕ, _+_, _≤_, _<_}
 use lib.ListN.{length}
 use Rattle.insn.specs.declared.Size.{Size}
 use Rattle.machine.specs.declared.Tv.{Tv}
@@ -17,8 +17,10 @@ use Rattle.machine.specs.Marked.{Cells}
 use Rattle.machine.specs.Regions.{find}
 use Rattle.machine.specs.Memory.{width, aligned}
 use Rattle.machine.specs.RegionLaws.{found-fits}
+use Rattle.state.specs.Windows.{Sizes, Within}
+use Rattle.state.specs.WindowLaws.{good-within}
 use Rattle.machine.specs.Step.{Outcome, after, next, refuse, reveal, place}
-use Rattle.step.specs.Tasks.{Ready}
+use Rattle.step.specs.Tasks.{Prepared}
 
 module _ (o : Open) (c m : Cells) {v b : Tv} (k : ℕ → Outcome) (e : b ≡ v) where
   pub opened : {x : Outcome} → b .mark ≡ false → x ≡ k (b .val) → x ≡ reveal o c m v k
@@ -41,7 +43,12 @@ module _ (map : List ℕ) (right : ℕ) (answer : Answer) (c m : Cells) {a d : �
 pub on : {w : Went} {v o : Open} {c d m n : Cells} → w ≡ Next v → v ≡ o → c ≡ d → m ≡ n → after w c m ≡ next o d n
 on h p q r = rw (h, p, q, r)
 
--- an operand that is found lies in memory whole, and its marks beside it
-pub fits : {map mem marks : List ℕ} → Ready map mem marks → (s : Size) (right x : ℕ) {a p : ℕ} {f : Spot}
-    → a ≡ aligned s x → f ≡ find map right a → f ≡ At p → (p + width s ≤ length mem) × (length mem ≡ length marks)
-fits {map} {mem} r s right x e g h = (found-fits map (length mem) (r .good) s right x _ e g h, r .same)
+module _ {map sizes mem marks : List ℕ} (p : Prepared map sizes mem marks) where
+  -- the code can look for an address
+  pub finds : {n : ℕ} → n < 3 → (n < 3) × Sizes map sizes × Within map
+  finds h = (h, p .seen, good-within map (length mem) (p .ready .good))
+
+  -- an operand that is found lies in memory whole, and its marks beside it
+  pub fits : (s : Size) (right x : ℕ) {a at : ℕ} {f : Spot}
+      → a ≡ aligned s x → f ≡ find map right a → f ≡ At at → (at + width s ≤ length mem) × (length mem ≡ length marks)
+  fits s right x e g h = (found-fits map (length mem) (p .ready .good) s right x _ e g h, p .ready .same)

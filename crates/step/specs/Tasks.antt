@@ -2,7 +2,7 @@
 use mathlib.Core.Path.{_≡_}
 use mathlib.Core.Bool.{Bool, true, false, cond}
 use mathlib.Core.List.{List}
-use Prim.Native.Nat.{ℕ, _<_}
+use Prim.Native.Nat.{ℕ, _/_, _%_, _^_, _<_}
 use lib.ListN.{length}
 use Rattle.insn.specs.declared.Decoded.{Decoded}
 use Rattle.insn.specs.declared.Decoded.the-variants as decoded
@@ -12,9 +12,10 @@ use Rattle.machine.specs.declared.Answer.{Answer}
 use Rattle.machine.specs.declared.Answer.the-variants.{Done, Size, Map, State, Asleep, NoFetch, Undefined, Leak, NoRead, NoWrite}
 use Rattle.machine.specs.declared.Went.{Went}
 use Rattle.machine.specs.declared.Went.the-variants.{Next, Stop}
+use Rattle.step.specs.declared.Packed.{Packed}
 use Rattle.step.specs.declared.Out.{Out}
+use Rattle.step.specs.declared.Wide.{Wide}
 use Rattle.step.specs.declared.Fetched.{Fetched}
-use Rattle.step.specs.declared.Fetched.the-variants.{Halves, Nowhere, Secret}
 use Rattle.step.specs.declared.System.{System}
 use Rattle.step.specs.declared.System.the-variants.{Ldsr, Stsr, Trap, Halt, Reti, Di, Ei}
 use Rattle.step.specs.declared.Task.{Task}
@@ -22,6 +23,7 @@ use Rattle.step.specs.declared.Task.the-variants.{Compute, Load, Store, 
 use Rattle.machine.specs.Marked.{Cells}
 use Rattle.machine.specs.Psw.{putReg, condition}
 use Rattle.machine.specs.Regions.{goodMap}
+use Rattle.state.specs.Windows.{Sizes}
 use Rattle.machine.specs.Operations.{operate}
 use Rattle.machine.specs.Step.{Outcome, execute, refuse, next, plus, modes, waits, load, store, bitwise, jmp, bcond, jarl, ldsr, system, trap, reti}
 
@@ -37,8 +39,38 @@ goesOn Leak = false
 goesOn NoRead = false
 goesOn NoWrite = false
 
+-- what is never marked, out of the two numbers that hold it
+abbrev pub openOf : Packed → Open
+openOf c =
+    record {
+      pc = c .pc % 2 ^ 32;
+      np = c .rest / 2 ^ 20 % 2;
+      ep = c .rest / 2 ^ 19 % 2;
+      id = c .rest / 2 ^ 18 % 2;
+      ecr = c .rest / 2 ^ 32;
+      code = c .rest % 2 ^ 16;
+      nmi = c .rest / 2 ^ 16 % 2;
+      halted = c .rest / 2 ^ 17 % 2;
+    }
+
+-- what the two numbers can hold
+pub record Fits (o : Open) : Type 0 where
+  pub np : o .np < 2
+  pub ep : o .ep < 2
+  pub id : o .id < 2
+  pub code : o .code < 2 ^ 16
+  pub nmi : o .nmi < 2
+  pub halted : o .halted < 2
+
+-- how a step went
+abbrev pub wentTo : Answer → ℕ → Open → Went
+wentTo a place o = cond (goesOn a) (Next o) (Stop a place)
+
 abbrev pub wentOf : Out → Went
-wentOf w = cond (goesOn (w .answer)) (Next (w .core)) (Stop (w .answer) (w .place))
+wentOf w = wentTo (w .answer) (w .place) (openOf (w .core))
+
+abbrev pub wentWide : Wide → Went
+wentWide w = wentTo (w .answer) (w .place) (w .open)
 
 unfoldable pub doSystem : System → Open → Cells → Cells → Outcome
 doSystem (Ldsr reg2 regid) o c m = ldsr reg2 regid o c m
@@ -86,11 +118,14 @@ pub record Ready (map mem marks : List ℕ) : Type 0 where
   pub good : goodMap map (length mem) ≡ true
   pub same : length mem ≡ length marks
 
+-- the same with the sizes that the code finds addresses by
+pub record Prepared (map sizes mem marks : List ℕ) : Type 0 where
+  pub ready : Ready map mem marks
+  pub seen : Sizes map sizes
+
 -- what a fetch found, carried on: a second halfword of a short form is 0, and is not looked at
 abbrev pub fetched : Fetched → List ℕ → Open → Cells → Cells → Outcome
-fetched (Halves h w) map o c m = execute (decode h w) map o c m
-fetched (Nowhere a) map o c m = refuse NoFetch a c m
-fetched Secret map o c m = refuse Leak (o .pc) c m
+fetched f map o c m = cond (goesOn (f .answer)) (execute (decode (f .first) (f .second)) map o c m) (refuse (f .answer) (f .place) c m)
 
 -- a decoded instruction is in range
 abbrev pub DecodedFields : Decoded → Type 0

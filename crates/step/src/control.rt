@@ -4,10 +4,13 @@ ghost use Prim.Native.Nat.{_<_, _/_, _%_, _^_};
 ghost use Rattle.machine.specs.Marked.{Cells, both};
 ghost use Rattle.machine.specs.Psw.{putReg, condition, sys, bits, putPswFlags};
 ghost use Rattle.machine.specs.Step.{after, reveal, next, plus, modes, savePc, savePsw, jmp, bcond, jarl, ldsr, system, exception, trap, illegal, return, reti, takeNmi, takeCode};
-ghost use Rattle.step.specs.Tasks.{wentOf, doSystem, SystemFields};
+ghost use Rattle.step.specs.Tasks.{openOf, wentOf, wentWide, doSystem, SystemFields};
 use crate::Out;
+use crate::Packed;
 use crate::System;
+use crate::Wide;
 use crate::core;
+use crate::parts;
 use machine::Open;
 use machine::Tv;
 use state::cells;
@@ -30,9 +33,9 @@ fn sys(n: u32) -> u32
     32 + n
 }
 
-pub fn jump(base: u32, o: Open, cells: &[u32; 38], tags: &[u8; 38]) -> Out
+pub fn jump(base: u32, o: Packed, cells: &[u32; 38], tags: &[u8; 38]) -> Out
     requires { ⌜ base < 32 ⌝ }
-    ensures { λ r. ⌜ ((m : Cells) → after (wentOf r) (both (now (cells .entry)) (now (tags .entry))) m ≡ jmp base o (both (now (cells .entry)) (now (tags .entry))) m) ⌝ }
+    ensures { λ r. ⌜ ((m : Cells) → after (wentOf r) (both (now (cells .entry)) (now (tags .entry))) m ≡ jmp base (openOf o) (both (now (cells .entry)) (now (tags .entry))) m) ⌝ }
 {
     let b = cells::reg(cells, tags, base);
     if b.mark {
@@ -42,8 +45,8 @@ pub fn jump(base: u32, o: Open, cells: &[u32; 38], tags: &[u8; 38]) -> Out
 }
 
 // The displacement counts from the instruction's own address.
-pub fn branch(cond: u32, disp: u32, o: Open, cells: &[u32; 38], tags: &[u8; 38]) -> Out
-    ensures { λ r. ⌜ ((m : Cells) → after (wentOf r) (both (now (cells .entry)) (now (tags .entry))) m ≡ bcond cond disp o (both (now (cells .entry)) (now (tags .entry))) m) ⌝ }
+pub fn branch(cond: u32, disp: u32, o: Packed, cells: &[u32; 38], tags: &[u8; 38]) -> Out
+    ensures { λ r. ⌜ ((m : Cells) → after (wentOf r) (both (now (cells .entry)) (now (tags .entry))) m ≡ bcond cond disp (openOf o) (both (now (cells .entry)) (now (tags .entry))) m) ⌝ }
 {
     let t = psw::condition(cond, cells, tags);
     if t.mark {
@@ -56,16 +59,16 @@ pub fn branch(cond: u32, disp: u32, o: Open, cells: &[u32; 38], tags: &[u8; 38])
 }
 
 // JARL: the link is the next PC.
-pub fn link(disp: u32, target: u32, o: Open, cells: &mut [u32; 38], tags: &mut [u8; 38]) -> Out
+pub fn link(disp: u32, target: u32, o: Packed, cells: &mut [u32; 38], tags: &mut [u8; 38]) -> Out
     requires { ⌜ target < 32 ⌝ }
-    ensures { λ r. ⌜ ((m : Cells) → after (wentOf r) (both (now (cells .exit)) (now (tags .exit))) m ≡ jarl disp target o (both (now (cells .entry)) (now (tags .entry))) m) ⌝ }
+    ensures { λ r. ⌜ ((m : Cells) → after (wentOf r) (both (now (cells .exit)) (now (tags .exit))) m ≡ jarl disp target (openOf o) (both (now (cells .entry)) (now (tags .entry))) m) ⌝ }
 {
     cells::put_reg(
         cells,
         tags,
         target,
         Tv {
-            val: extend::sum24(o.pc, 4),
+            val: extend::sum24(core::pc(o), 4),
             mark: false,
         },
     );
@@ -76,12 +79,12 @@ pub fn link(disp: u32, target: u32, o: Open, cells: &mut [u32; 38], tags: &mut [
 pub fn set_condition(
     cond: u32,
     target: u32,
-    o: Open,
+    o: Packed,
     cells: &mut [u32; 38],
     tags: &mut [u8; 38],
 ) -> Out
     requires { ⌜ target < 32 ⌝ }
-    ensures { λ r. ⌜ ((m : Cells) → after (wentOf r) (both (now (cells .exit)) (now (tags .exit))) m ≡ next (plus 4 o) (putReg target (condition cond (both (now (cells .entry)) (now (tags .entry)))) (both (now (cells .entry)) (now (tags .entry)))) m) ⌝ }
+    ensures { λ r. ⌜ ((m : Cells) → after (wentOf r) (both (now (cells .exit)) (now (tags .exit))) m ≡ next (plus 4 (openOf o)) (putReg target (condition cond (both (now (cells .entry)) (now (tags .entry)))) (both (now (cells .entry)) (now (tags .entry)))) m) ⌝ }
 {
     let t = psw::condition(cond, &*cells, &*tags);
     cells::put_reg(cells, tags, target, t);
@@ -89,20 +92,20 @@ pub fn set_condition(
 }
 
 // LDSR to PSW: its bits choose whether requests are accepted, so a marked value is refused.
-fn load_psw(v: Tv, o: Open, cells: &mut [u32; 38], tags: &mut [u8; 38]) -> Out
-    ensures { λ r. ⌜ ((m : Cells) → after (wentOf r) (both (now (cells .exit)) (now (tags .exit))) m ≡ reveal o (both (now (cells .entry)) (now (tags .entry))) m v (λ w. next (plus 4 (modes (w / 2 ^ 7 % 2) (w / 2 ^ 6 % 2) (w / 2 ^ 5 % 2) o)) (putPswFlags (bits w 0) (both (now (cells .entry)) (now (tags .entry)))) m)) ⌝ }
+fn load_psw(v: Tv, o: Open, cells: &mut [u32; 38], tags: &mut [u8; 38]) -> Wide
+    ensures { λ r. ⌜ ((m : Cells) → after (wentWide r) (both (now (cells .exit)) (now (tags .exit))) m ≡ reveal o (both (now (cells .entry)) (now (tags .entry))) m v (λ w. next (plus 4 (modes (w / 2 ^ 7 % 2) (w / 2 ^ 6 % 2) (w / 2 ^ 5 % 2) o)) (putPswFlags (bits w 0) (both (now (cells .entry)) (now (tags .entry)))) m)) ⌝ }
 {
     if v.mark {
-        return core::leak(o);
+        return parts::leak(o);
     }
     let w = v.val;
     psw::put_flags(w, 0, cells, tags);
-    core::next(core::plus(4, core::modes(w / 128 % 2, w / 64 % 2, w / 32 % 2, o)))
+    parts::next(parts::plus(4, parts::modes(w / 128 % 2, w / 64 % 2, w / 32 % 2, o)))
 }
 
-pub fn ldsr(reg2: u32, regid: u32, o: Open, cells: &mut [u32; 38], tags: &mut [u8; 38]) -> Out
+pub fn ldsr(reg2: u32, regid: u32, o: Open, cells: &mut [u32; 38], tags: &mut [u8; 38]) -> Wide
     requires { ⌜ reg2 < 32 ⌝ }
-    ensures { λ r. ⌜ ((m : Cells) → after (wentOf r) (both (now (cells .exit)) (now (tags .exit))) m ≡ ldsr reg2 regid o (both (now (cells .entry)) (now (tags .entry))) m) ⌝ }
+    ensures { λ r. ⌜ ((m : Cells) → after (wentWide r) (both (now (cells .exit)) (now (tags .exit))) m ≡ ldsr reg2 regid o (both (now (cells .entry)) (now (tags .entry))) m) ⌝ }
 {
     let v = cells::reg(&*cells, &*tags, reg2);
     match regid {
@@ -116,11 +119,11 @@ pub fn ldsr(reg2: u32, regid: u32, o: Open, cells: &mut [u32; 38], tags: &mut [u
                     mark: v.mark,
                 },
             );
-            core::next(core::plus(4, o))
+            parts::next(parts::plus(4, o))
         }
         1 => {
             psw::put_spread(sys(EIPSW), v, cells, tags);
-            core::next(core::plus(4, o))
+            parts::next(parts::plus(4, o))
         }
         2 => {
             cells::put(
@@ -132,11 +135,11 @@ pub fn ldsr(reg2: u32, regid: u32, o: Open, cells: &mut [u32; 38], tags: &mut [u
                     mark: v.mark,
                 },
             );
-            core::next(core::plus(4, o))
+            parts::next(parts::plus(4, o))
         }
         3 => {
             psw::put_spread(sys(FEPSW), v, cells, tags);
-            core::next(core::plus(4, o))
+            parts::next(parts::plus(4, o))
         }
         _ => load_psw(v, o, cells, tags),
     }
@@ -159,13 +162,13 @@ fn system_value(regid: u32, o: Open, cells: &[u32; 38], tags: &[u8; 38]) -> Tv
     }
 }
 
-pub fn stsr(regid: u32, reg2: u32, o: Open, cells: &mut [u32; 38], tags: &mut [u8; 38]) -> Out
+pub fn stsr(regid: u32, reg2: u32, o: Open, cells: &mut [u32; 38], tags: &mut [u8; 38]) -> Wide
     requires { ⌜ reg2 < 32 ⌝ }
-    ensures { λ r. ⌜ ((m : Cells) → after (wentOf r) (both (now (cells .exit)) (now (tags .exit))) m ≡ next (plus 4 o) (putReg reg2 (system regid o (both (now (cells .entry)) (now (tags .entry)))) (both (now (cells .entry)) (now (tags .entry)))) m) ⌝ }
+    ensures { λ r. ⌜ ((m : Cells) → after (wentWide r) (both (now (cells .exit)) (now (tags .exit))) m ≡ next (plus 4 o) (putReg reg2 (system regid o (both (now (cells .entry)) (now (tags .entry)))) (both (now (cells .entry)) (now (tags .entry)))) m) ⌝ }
 {
     let v = system_value(regid, o, &*cells, &*tags);
     cells::put_reg(cells, tags, reg2, v);
-    core::next(core::plus(4, o))
+    parts::next(parts::plus(4, o))
 }
 
 // A PC and PSW to the saved registers pc and psw.
@@ -185,53 +188,53 @@ fn save(value: u32, pc: u32, psw: u32, o: Open, cells: &mut [u32; 38], tags: &mu
     );
 }
 
-fn exception(code: u32, target: u32, o: Open, cells: &mut [u32; 38], tags: &mut [u8; 38]) -> Out
+fn exception(code: u32, target: u32, o: Open, cells: &mut [u32; 38], tags: &mut [u8; 38]) -> Wide
     requires { ⌜ code < 2 ^ 16 ⌝ }
-    ensures { λ r. ⌜ ((m : Cells) → after (wentOf r) (both (now (cells .exit)) (now (tags .exit))) m ≡ exception code target o (both (now (cells .entry)) (now (tags .entry))) m) ⌝ }
+    ensures { λ r. ⌜ ((m : Cells) → after (wentWide r) (both (now (cells .exit)) (now (tags .exit))) m ≡ exception code target o (both (now (cells .entry)) (now (tags .entry))) m) ⌝ }
 {
     save(extend::sum24(o.pc, 4), EIPC, EIPSW, o, cells, tags);
-    core::next(core::goto(target, core::eicc(code, core::modes(o.np, 1, 1, o))))
+    parts::next(parts::goto(target, parts::eicc(code, parts::modes(o.np, 1, 1, o))))
 }
 
-pub fn trap(vector: u32, o: Open, cells: &mut [u32; 38], tags: &mut [u8; 38]) -> Out
+pub fn trap(vector: u32, o: Open, cells: &mut [u32; 38], tags: &mut [u8; 38]) -> Wide
     requires { ⌜ vector < 32 ⌝ }
-    ensures { λ r. ⌜ ((m : Cells) → after (wentOf r) (both (now (cells .exit)) (now (tags .exit))) m ≡ trap vector o (both (now (cells .entry)) (now (tags .entry))) m) ⌝ }
+    ensures { λ r. ⌜ ((m : Cells) → after (wentWide r) (both (now (cells .exit)) (now (tags .exit))) m ≡ trap vector o (both (now (cells .entry)) (now (tags .entry))) m) ⌝ }
 {
     let target = if vector < 0x10 { 0x40 } else { 0x50 };
     exception(0x40 + vector, target, o, cells, tags)
 }
 
-pub fn illegal(o: Open, cells: &mut [u32; 38], tags: &mut [u8; 38]) -> Out
-    ensures { λ r. ⌜ ((m : Cells) → after (wentOf r) (both (now (cells .exit)) (now (tags .exit))) m ≡ illegal o (both (now (cells .entry)) (now (tags .entry))) m) ⌝ }
+pub fn illegal(o: Open, cells: &mut [u32; 38], tags: &mut [u8; 38]) -> Wide
+    ensures { λ r. ⌜ ((m : Cells) → after (wentWide r) (both (now (cells .exit)) (now (tags .exit))) m ≡ illegal o (both (now (cells .entry)) (now (tags .entry))) m) ⌝ }
 {
     exception(0x60, 0x60, o, cells, tags)
 }
 
 // Back to the saved PC and PSW in the registers pc and psw.
-fn return_to(pc: u32, psw: u32, o: Open, cells: &mut [u32; 38], tags: &mut [u8; 38]) -> Out
+fn return_to(pc: u32, psw: u32, o: Open, cells: &mut [u32; 38], tags: &mut [u8; 38]) -> Wide
     requires { ⌜ (pc < 6) × (psw < 6) ⌝ }
-    ensures { λ r. ⌜ ((m : Cells) → after (wentOf r) (both (now (cells .exit)) (now (tags .exit))) m ≡ return pc psw o (both (now (cells .entry)) (now (tags .entry))) m) ⌝ }
+    ensures { λ r. ⌜ ((m : Cells) → after (wentWide r) (both (now (cells .exit)) (now (tags .exit))) m ≡ return pc psw o (both (now (cells .entry)) (now (tags .entry))) m) ⌝ }
 {
     let a = cells::get(&*cells, &*tags, sys(pc));
     if a.mark {
-        return core::leak(o);
+        return parts::leak(o);
     }
     let b = psw::mode(sys(psw), &*cells, &*tags);
     if b.mark {
-        return core::leak(o);
+        return parts::leak(o);
     }
     let k = sys(psw) as usize;
     let w = cells[k];
     let m = tags[k];
     psw::put_flags(w, m, cells, tags);
-    core::next(core::goto(
+    parts::next(parts::goto(
         a.val / 2 * 2,
-        core::modes(b.val / 4 % 2, b.val / 2 % 2, b.val % 2, o),
+        parts::modes(b.val / 4 % 2, b.val / 2 % 2, b.val % 2, o),
     ))
 }
 
-pub fn reti(o: Open, cells: &mut [u32; 38], tags: &mut [u8; 38]) -> Out
-    ensures { λ r. ⌜ ((m : Cells) → after (wentOf r) (both (now (cells .exit)) (now (tags .exit))) m ≡ reti o (both (now (cells .entry)) (now (tags .entry))) m) ⌝ }
+pub fn reti(o: Open, cells: &mut [u32; 38], tags: &mut [u8; 38]) -> Wide
+    ensures { λ r. ⌜ ((m : Cells) → after (wentWide r) (both (now (cells .exit)) (now (tags .exit))) m ≡ reti o (both (now (cells .entry)) (now (tags .entry))) m) ⌝ }
 {
     if o.ep == 0 {
         if o.np == 1 {
@@ -242,24 +245,27 @@ pub fn reti(o: Open, cells: &mut [u32; 38], tags: &mut [u8; 38]) -> Out
 }
 
 // An NMI is accepted: it is cleared, and HALT ends.
-pub fn take_nmi(o: Open, cells: &mut [u32; 38], tags: &mut [u8; 38]) -> Out
-    ensures { λ r. ⌜ ((m : Cells) → after (wentOf r) (both (now (cells .exit)) (now (tags .exit))) m ≡ takeNmi o (both (now (cells .entry)) (now (tags .entry))) m) ⌝ }
+pub fn take_nmi(o: Open, cells: &mut [u32; 38], tags: &mut [u8; 38]) -> Wide
+    ensures { λ r. ⌜ ((m : Cells) → after (wentWide r) (both (now (cells .exit)) (now (tags .exit))) m ≡ takeNmi o (both (now (cells .entry)) (now (tags .entry))) m) ⌝ }
 {
     save(o.pc, FEPC, FEPSW, o, cells, tags);
-    core::next(core::goto(
+    parts::next(parts::goto(
         0x10,
-        core::fecc(0x10, core::modes(1, 0, 1, core::waits(o.code, 0, 0, o))),
+        parts::fecc(0x10, parts::modes(1, 0, 1, parts::waits(o.code, 0, 0, o))),
     ))
 }
 
 // A maskable code is accepted: it is cleared, and HALT ends.
-pub fn take_code(o: Open, cells: &mut [u32; 38], tags: &mut [u8; 38]) -> Out
+pub fn take_code(o: Open, cells: &mut [u32; 38], tags: &mut [u8; 38]) -> Wide
     requires { ⌜ o .code < 2 ^ 16 ⌝ }
-    ensures { λ r. ⌜ ((m : Cells) → after (wentOf r) (both (now (cells .exit)) (now (tags .exit))) m ≡ takeCode o (both (now (cells .entry)) (now (tags .entry))) m) ⌝ }
+    ensures { λ r. ⌜ ((m : Cells) → after (wentWide r) (both (now (cells .exit)) (now (tags .exit))) m ≡ takeCode o (both (now (cells .entry)) (now (tags .entry))) m) ⌝ }
 {
     save(o.pc, EIPC, EIPSW, o, cells, tags);
-    core::next(core::goto(
+    parts::next(parts::goto(
         o.code,
-        core::eicc(o.code, core::modes(o.np, 0, 1, core::waits(0, o.nmi, 0, o))),
+        parts::eicc(
+            o.code,
+            parts::modes(o.np, 0, 1, parts::waits(0, o.nmi, 0, o)),
+        ),
     ))
 }

@@ -5,13 +5,16 @@ ghost use Rattle.machine.specs.Marked.{Cells, both};
 ghost use Rattle.insn.specs.Coding.{decode};
 ghost use Rattle.machine.specs.Step.{after, execute, fetch, instruction, takeNmi, takeCode, step};
 ghost use Rattle.machine.specs.WellFormed.{WellFormed};
-ghost use Rattle.step.specs.Tasks.{wentOf, doSystem, doTask, SystemFields, TaskFields, DecodedFields, fetched, Ready};
+ghost use Rattle.step.specs.Tasks.{openOf, wentOf, wentWide, doSystem, doTask, SystemFields, TaskFields, DecodedFields, fetched, Prepared};
 use crate::Fetched;
 use crate::Out;
+use crate::Packed;
 use crate::System;
 use crate::Task;
+use crate::Wide;
 use crate::control;
 use crate::core;
+use crate::parts;
 use crate::tasks;
 use crate::transfer;
 use insn::Decoded;
@@ -24,32 +27,33 @@ use state::operations;
 use state::regions;
 use word::extend;
 
-fn system(s: System, o: Open, cells: &mut [u32; 38], tags: &mut [u8; 38]) -> Out
+fn system(s: System, o: Open, cells: &mut [u32; 38], tags: &mut [u8; 38]) -> Wide
     requires { ⌜ SystemFields s ⌝ }
-    ensures { λ r. ⌜ ((m : Cells) → after (wentOf r) (both (now (cells .exit)) (now (tags .exit))) m ≡ doSystem s o (both (now (cells .entry)) (now (tags .entry))) m) ⌝ }
+    ensures { λ r. ⌜ ((m : Cells) → after (wentWide r) (both (now (cells .exit)) (now (tags .exit))) m ≡ doSystem s o (both (now (cells .entry)) (now (tags .entry))) m) ⌝ }
 {
     match s {
         System::Ldsr { reg2, regid } => control::ldsr(reg2, regid, o, cells, tags),
         System::Stsr { regid, reg2 } => control::stsr(regid, reg2, o, cells, tags),
         System::Trap { vector } => control::trap(vector, o, cells, tags),
-        System::Halt => core::next(core::plus(4, core::waits(o.code, o.nmi, 1, o))),
+        System::Halt => parts::next(parts::plus(4, parts::waits(o.code, o.nmi, 1, o))),
         System::Reti => control::reti(o, cells, tags),
-        System::Di => core::next(core::plus(4, core::modes(o.np, o.ep, 1, o))),
-        System::Ei => core::next(core::plus(4, core::modes(o.np, o.ep, 0, o))),
+        System::Di => parts::next(parts::plus(4, parts::modes(o.np, o.ep, 1, o))),
+        System::Ei => parts::next(parts::plus(4, parts::modes(o.np, o.ep, 0, o))),
     }
 }
 
 fn perform(
     t: Task,
     map: &[u32; 16],
-    o: Open,
+    sizes: &[u32; 12],
+    o: Packed,
     cells: &mut [u32; 38],
     tags: &mut [u8; 38],
     mem: &mut [u8],
     marks: &mut [u8],
 ) -> Out
-    requires { ⌜ Ready (now map) (now mem) (now marks) × TaskFields t ⌝ }
-    ensures { λ r. ⌜ after (wentOf r) (both (now (cells .exit)) (now (tags .exit))) (both (now (mem .exit)) (now (marks .exit))) ≡ doTask t (now (map .entry)) o (both (now (cells .entry)) (now (tags .entry))) (both (now (mem .entry)) (now (marks .entry))) ⌝ }
+    requires { ⌜ Prepared (now map) (now sizes) (now mem) (now marks) × TaskFields t ⌝ }
+    ensures { λ r. ⌜ after (wentOf r) (both (now (cells .exit)) (now (tags .exit))) (both (now (mem .exit)) (now (marks .exit))) ≡ doTask t (now (map .entry)) (openOf o) (both (now (cells .entry)) (now (tags .entry))) (both (now (mem .entry)) (now (marks .entry))) ⌝ }
 {
     match t {
         Task::Compute {
@@ -75,6 +79,7 @@ fn perform(
             target,
             len,
             map,
+            sizes,
             o,
             cells,
             tags,
@@ -94,6 +99,7 @@ fn perform(
             source,
             len,
             map,
+            sizes,
             o,
             &*cells,
             &*tags,
@@ -105,12 +111,27 @@ fn perform(
             bit,
             disp,
             base,
-        } => transfer::bitwise(op, bit, disp, base, map, o, cells, tags, mem, &*marks),
+        } => transfer::bitwise(
+            op,
+            bit,
+            disp,
+            base,
+            map,
+            sizes,
+            o,
+            cells,
+            tags,
+            mem,
+            &*marks,
+        ),
         Task::Jump { base } => control::jump(base, o, &*cells, &*tags),
         Task::Branch { cond, disp } => control::branch(cond, disp, o, &*cells, &*tags),
         Task::Link { disp, target } => control::link(disp, target, o, cells, tags),
         Task::Condition { cond, target } => control::set_condition(cond, target, o, cells, tags),
-        Task::System(s) => system(s, o, cells, tags),
+        Task::System(s) => {
+            let w = system(s, core::unpack(o), cells, tags);
+            core::settle(w, o)
+        },
     }
 }
 
@@ -118,123 +139,162 @@ fn perform(
 fn execute(
     d: Decoded,
     map: &[u32; 16],
-    o: Open,
+    sizes: &[u32; 12],
+    o: Packed,
     cells: &mut [u32; 38],
     tags: &mut [u8; 38],
     mem: &mut [u8],
     marks: &mut [u8],
 ) -> Out
-    requires { ⌜ Ready (now map) (now mem) (now marks) × DecodedFields d ⌝ }
-    ensures { λ r. ⌜ after (wentOf r) (both (now (cells .exit)) (now (tags .exit))) (both (now (mem .exit)) (now (marks .exit))) ≡ execute d (now (map .entry)) o (both (now (cells .entry)) (now (tags .entry))) (both (now (mem .entry)) (now (marks .entry))) ⌝ }
+    requires { ⌜ Prepared (now map) (now sizes) (now mem) (now marks) × DecodedFields d ⌝ }
+    ensures { λ r. ⌜ after (wentOf r) (both (now (cells .exit)) (now (tags .exit))) (both (now (mem .exit)) (now (marks .exit))) ≡ execute d (now (map .entry)) (openOf o) (both (now (cells .entry)) (now (tags .entry))) (both (now (mem .entry)) (now (marks .entry))) ⌝ }
 {
     match d {
         Decoded::Valid(i) => {
             let t = tasks::task_of(i, &*cells, &*tags);
-            perform(t, map, o, cells, tags, mem, marks)
+            perform(t, map, sizes, o, cells, tags, mem, marks)
         }
-        Decoded::Illegal => control::illegal(o, cells, tags),
+        Decoded::Illegal => {
+            let w = control::illegal(core::unpack(o), cells, tags);
+            core::settle(w, o)
+        }
         Decoded::Undefined => Out {
             answer: Answer::Undefined,
-            place: o.pc,
+            place: core::pc(o),
             core: o,
         },
     }
 }
 
-// A second halfword is fetched only if the first asks for it.
-fn fetch(map: &[u32; 16], pc: u32, mem: &[u8], marks: &[u8]) -> Fetched
-    requires { ⌜ Ready (now map) (now mem) (now marks) × (pc % 2 ≡ 0) ⌝ }
-    ensures { λ r. ⌜ ((o : Open) (c : Cells) → o .pc ≡ pc → fetched r (now (map .entry)) o c (both (now (mem .entry)) (now (marks .entry))) ≡ instruction (now (map .entry)) o c (both (now (mem .entry)) (now (marks .entry)))) ⌝ }
+// A fetch that is refused.
+fn unfetched(answer: Answer, place: u32) -> Fetched
+    ensures { λ r. ⌜ (r .answer ≡ answer) × (r .place ≡ place) ⌝ }
 {
-    match regions::find(map, regions::FETCH, pc) {
-        Spot::At(p) => {
-            let h = memory::fetch(mem, marks, p);
-            if h.mark {
-                return Fetched::Secret;
-            }
-            let first = h.val as u16;
-            if decode::is_long(first) {
-                return fetch_second(map, first, extend::sum24(pc, 2), mem, marks);
-            }
-            Fetched::Halves(first, 0)
-        }
-        Spot::Nowhere => Fetched::Nowhere(pc),
+    Fetched {
+        answer: answer,
+        place: place,
+        first: 0,
+        second: 0,
     }
 }
 
-fn fetch_second(map: &[u32; 16], first: u16, at: u32, mem: &[u8], marks: &[u8]) -> Fetched
-    requires { ⌜ Ready (now map) (now mem) (now marks) × (at % 2 ≡ 0) ⌝ }
-    ensures { λ r. ⌜ ((o : Open) (c : Cells) → fetched r (now (map .entry)) o c (both (now (mem .entry)) (now (marks .entry))) ≡ fetch at (now (map .entry)) o c (both (now (mem .entry)) (now (marks .entry))) (λ w. execute (decode first w) (now (map .entry)) o c (both (now (mem .entry)) (now (marks .entry))))) ⌝ }
+// A second halfword is fetched only if the first asks for it.
+fn fetch(map: &[u32; 16], sizes: &[u32; 12], pc: u32, mem: &[u8], marks: &[u8]) -> Fetched
+    requires { ⌜ Prepared (now map) (now sizes) (now mem) (now marks) × (pc % 2 ≡ 0) ⌝ }
+    ensures { λ r. ⌜ ((o : Open) (c : Cells) → o .pc ≡ pc → fetched r (now (map .entry)) o c (both (now (mem .entry)) (now (marks .entry))) ≡ instruction (now (map .entry)) o c (both (now (mem .entry)) (now (marks .entry)))) ⌝ }
 {
-    match regions::find(map, regions::FETCH, at) {
+    match regions::find(map, sizes, regions::FETCH, pc) {
         Spot::At(p) => {
             let h = memory::fetch(mem, marks, p);
             if h.mark {
-                return Fetched::Secret;
+                return unfetched(Answer::Leak, pc);
             }
-            Fetched::Halves(first, h.val as u16)
+            let first = h.val as u16;
+            if decode::is_long(first) {
+                return fetch_second(map, sizes, first, pc, extend::sum24(pc, 2), mem, marks);
+            }
+            Fetched {
+                answer: Answer::Done,
+                place: 0,
+                first: first,
+                second: 0,
+            }
         }
-        Spot::Nowhere => Fetched::Nowhere(at),
+        Spot::Nowhere => unfetched(Answer::NoFetch, pc),
+    }
+}
+
+fn fetch_second(
+    map: &[u32; 16],
+    sizes: &[u32; 12],
+    first: u16,
+    pc: u32,
+    at: u32,
+    mem: &[u8],
+    marks: &[u8],
+) -> Fetched
+    requires { ⌜ Prepared (now map) (now sizes) (now mem) (now marks) × (at % 2 ≡ 0) ⌝ }
+    ensures { λ r. ⌜ ((o : Open) (c : Cells) → o .pc ≡ pc → fetched r (now (map .entry)) o c (both (now (mem .entry)) (now (marks .entry))) ≡ fetch at (now (map .entry)) o c (both (now (mem .entry)) (now (marks .entry))) (λ w. execute (decode first w) (now (map .entry)) o c (both (now (mem .entry)) (now (marks .entry))))) ⌝ }
+{
+    match regions::find(map, sizes, regions::FETCH, at) {
+        Spot::At(p) => {
+            let h = memory::fetch(mem, marks, p);
+            if h.mark {
+                return unfetched(Answer::Leak, pc);
+            }
+            Fetched {
+                answer: Answer::Done,
+                place: 0,
+                first: first,
+                second: h.val as u16,
+            }
+        }
+        Spot::Nowhere => unfetched(Answer::NoFetch, at),
     }
 }
 
 // The instruction at PC.
 fn instruction(
     map: &[u32; 16],
-    o: Open,
+    sizes: &[u32; 12],
+    o: Packed,
     cells: &mut [u32; 38],
     tags: &mut [u8; 38],
     mem: &mut [u8],
     marks: &mut [u8],
 ) -> Out
-    requires { ⌜ Ready (now map) (now mem) (now marks) × (o .pc % 2 ≡ 0) ⌝ }
-    ensures { λ r. ⌜ after (wentOf r) (both (now (cells .exit)) (now (tags .exit))) (both (now (mem .exit)) (now (marks .exit))) ≡ instruction (now (map .entry)) o (both (now (cells .entry)) (now (tags .entry))) (both (now (mem .entry)) (now (marks .entry))) ⌝ }
+    requires { ⌜ Prepared (now map) (now sizes) (now mem) (now marks) × (openOf o .pc % 2 ≡ 0) ⌝ }
+    ensures { λ r. ⌜ after (wentOf r) (both (now (cells .exit)) (now (tags .exit))) (both (now (mem .exit)) (now (marks .exit))) ≡ instruction (now (map .entry)) (openOf o) (both (now (cells .entry)) (now (tags .entry))) (both (now (mem .entry)) (now (marks .entry))) ⌝ }
 {
-    match fetch(map, o.pc, &*mem, &*marks) {
-        Fetched::Halves(first, second) => execute(
-            decode::decode(first, second),
+    let f = fetch(map, sizes, core::pc(o), &*mem, &*marks);
+    let answer = f.answer;
+    match answer {
+        Answer::Done => execute(
+            decode::decode(f.first, f.second),
             map,
+            sizes,
             o,
             cells,
             tags,
             mem,
             marks,
         ),
-        Fetched::Nowhere(a) => Out {
-            answer: Answer::NoFetch,
-            place: a,
+        _ => Out {
+            answer: answer,
+            place: f.place,
             core: o,
         },
-        Fetched::Secret => core::leak(o),
     }
 }
 
 // One step: an NMI, a maskable code, HALT, and else the instruction. Mostly nothing waits, and one test says so.
 pub fn step(
     map: &[u32; 16],
-    o: Open,
+    sizes: &[u32; 12],
+    o: Packed,
     cells: &mut [u32; 38],
     tags: &mut [u8; 38],
     mem: &mut [u8],
     marks: &mut [u8],
 ) -> Out
-    requires { ⌜ Ready (now map) (now mem) (now marks) × WellFormed o (both (now cells) (now tags)) ⌝ }
-    ensures { λ r. ⌜ after (wentOf r) (both (now (cells .exit)) (now (tags .exit))) (both (now (mem .exit)) (now (marks .exit))) ≡ step (now (map .entry)) o (both (now (cells .entry)) (now (tags .entry))) (both (now (mem .entry)) (now (marks .entry))) ⌝ }
+    requires { ⌜ Prepared (now map) (now sizes) (now mem) (now marks) × WellFormed (openOf o) (both (now cells) (now tags)) ⌝ }
+    ensures { λ r. ⌜ after (wentOf r) (both (now (cells .exit)) (now (tags .exit))) (both (now (mem .exit)) (now (marks .exit))) ≡ step (now (map .entry)) (openOf o) (both (now (cells .entry)) (now (tags .entry))) (both (now (mem .entry)) (now (marks .entry))) ⌝ }
 {
-    if (o.nmi | o.code | o.halted) != 0 {
-        if o.nmi == 1 {
-            if o.np == 0 {
-                return control::take_nmi(o, cells, tags);
+    if core::waits(o) {
+        let w = core::unpack(o);
+        if w.nmi == 1 {
+            if w.np == 0 {
+                return core::settle(control::take_nmi(w, cells, tags), o);
             }
         }
-        if o.code != 0 {
-            if o.np == 0 {
-                if o.id == 0 {
-                    return control::take_code(o, cells, tags);
+        if w.code != 0 {
+            if w.np == 0 {
+                if w.id == 0 {
+                    return core::settle(control::take_code(w, cells, tags), o);
                 }
             }
         }
-        if o.halted == 1 {
+        if w.halted == 1 {
             return Out {
                 answer: Answer::Asleep,
                 place: 0,
@@ -242,5 +302,5 @@ pub fn step(
             };
         }
     }
-    instruction(map, o, cells, tags, mem, marks)
+    instruction(map, sizes, o, cells, tags, mem, marks)
 }

@@ -3,6 +3,7 @@
 pub mod control;
 pub mod core;
 pub mod exec;
+pub mod parts;
 pub mod run;
 pub mod tasks;
 pub mod transfer;
@@ -14,11 +15,26 @@ use machine::Op;
 use machine::Open;
 use machine::Tv;
 
+// What is never marked, in two numbers: a step mostly changes PC alone, and one test of the rest says whether anything waits.
+// `rest` holds the maskable code in bits 0 to 15, an NMI in bit 16, HALT's state in bit 17, ID, EP and NP in bits 18 to 20, and ECR
+// from bit 32 on.
+pub struct Packed {
+    pub pc: u64,
+    pub rest: u64,
+}
+
 // How the code's step ends: `Done` with the next state, or a refusal with its place and the state as it was.
 pub struct Out {
     pub answer: Answer,
     pub place: u32,
-    pub core: Open,
+    pub core: Packed,
+}
+
+// The same with each part by itself, from what changes more than PC.
+pub struct Wide {
+    pub answer: Answer,
+    pub place: u32,
+    pub open: Open,
 }
 
 // What an instruction asks for, its operands at hand: instructions of several formats share a task.
@@ -79,9 +95,10 @@ pub enum System {
     Ei,
 }
 
-// What a fetch found: the halfwords, 0 for a second one that is not asked for; or no fetchable region at an address; or a marked byte.
-pub enum Fetched {
-    Halves(u16, u16),
-    Nowhere(u32),
-    Secret,
+// What a fetch found: `Done` with the halfwords, 0 for a second one that is not asked for; or a refusal with its place.
+pub struct Fetched {
+    pub answer: Answer,
+    pub place: u32,
+    pub first: u16,
+    pub second: u16,
 }

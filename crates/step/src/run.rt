@@ -4,10 +4,12 @@ ghost use Rattle.machine.specs.Marked.{both};
 ghost use Rattle.machine.specs.Run.{Ended, run};
 ghost use Rattle.machine.specs.WellFormed.{WellFormed};
 ghost use Rattle.step.specs.Tasks.{Ready};
+use crate::core;
 use crate::exec;
 use machine::Answer;
 use machine::Open;
 use machine::Ran;
+use state::regions;
 
 pub fn run(
     budget: u32,
@@ -21,10 +23,11 @@ pub fn run(
     requires { ⌜ Ready (now map) (now mem) (now marks) × WellFormed start (both (now cells) (now tags)) ⌝ }
     ensures { λ r. ⌜ record { ran = r; cells = both (now (cells .exit)) (now (tags .exit)); mem = both (now (mem .exit)) (now (marks .exit)) } ≡ run budget 0 (now (map .entry)) start (both (now (cells .entry)) (now (tags .entry))) (both (now (mem .entry)) (now (marks .entry))) ⌝ }
 {
-    let mut o = start;
+    let sizes = regions::sizes(map);
+    let mut o = core::pack(start);
     let mut n: u32 = 0;
     while n < budget {
-        let w = exec::step(map, o, cells, tags, mem, marks);
+        let w = exec::step(map, &sizes, o, cells, tags, mem, marks);
         let answer = w.answer;
         match answer {
             Answer::Done => {
@@ -35,7 +38,7 @@ pub fn run(
                 answer: answer,
                 place: w.place,
                 steps: n,
-                core: o,
+                core: core::unpack(o),
             },
         }
     }
@@ -43,6 +46,6 @@ pub fn run(
         answer: Answer::Done,
         place: 0,
         steps: n,
-        core: o,
+        core: core::unpack(o),
     }
 }

@@ -4,13 +4,13 @@ ghost use Prim.Native.Nat.{_<_};
 ghost use Rattle.machine.specs.Marked.{both};
 ghost use Rattle.machine.specs.Memory.{address};
 ghost use Rattle.machine.specs.Step.{after, load, store, bitwise};
-ghost use Rattle.step.specs.Tasks.{wentOf, Ready};
+ghost use Rattle.step.specs.Tasks.{openOf, wentOf, Prepared};
 use crate::Out;
+use crate::Packed;
 use crate::core;
 use insn::BitOp;
 use insn::Size;
 use machine::Answer;
-use machine::Open;
 use machine::Spot;
 use state::cells;
 use state::memory;
@@ -32,21 +32,22 @@ pub fn load(
     target: u32,
     len: u32,
     map: &[u32; 16],
-    o: Open,
+    sizes: &[u32; 12],
+    o: Packed,
     cells: &mut [u32; 38],
     tags: &mut [u8; 38],
     mem: &[u8],
     marks: &[u8],
 ) -> Out
-    requires { ⌜ Ready (now map) (now mem) (now marks) × (base < 32) × (target < 32) ⌝ }
-    ensures { λ r. ⌜ after (wentOf r) (both (now (cells .exit)) (now (tags .exit))) (both (now (mem .entry)) (now (marks .entry))) ≡ load size disp base target len (now (map .entry)) o (both (now (cells .entry)) (now (tags .entry))) (both (now (mem .entry)) (now (marks .entry))) ⌝ }
+    requires { ⌜ Prepared (now map) (now sizes) (now mem) (now marks) × (base < 32) × (target < 32) ⌝ }
+    ensures { λ r. ⌜ after (wentOf r) (both (now (cells .exit)) (now (tags .exit))) (both (now (mem .entry)) (now (marks .entry))) ≡ load size disp base target len (now (map .entry)) (openOf o) (both (now (cells .entry)) (now (tags .entry))) (both (now (mem .entry)) (now (marks .entry))) ⌝ }
 {
     let b = cells::reg(&*cells, &*tags, base);
     if b.mark {
         return core::leak(o);
     }
     let a = address(size, b.val, disp);
-    match regions::find(map, regions::READ, a) {
+    match regions::find(map, sizes, regions::READ, a) {
         Spot::At(p) => {
             let v = memory::load(size, mem, marks, p);
             cells::put_reg(cells, tags, target, v);
@@ -67,21 +68,22 @@ pub fn store(
     source: u32,
     len: u32,
     map: &[u32; 16],
-    o: Open,
+    sizes: &[u32; 12],
+    o: Packed,
     cells: &[u32; 38],
     tags: &[u8; 38],
     mem: &mut [u8],
     marks: &mut [u8],
 ) -> Out
-    requires { ⌜ Ready (now map) (now mem) (now marks) × (base < 32) × (source < 32) ⌝ }
-    ensures { λ r. ⌜ after (wentOf r) (both (now (cells .entry)) (now (tags .entry))) (both (now (mem .exit)) (now (marks .exit))) ≡ store size disp base source len (now (map .entry)) o (both (now (cells .entry)) (now (tags .entry))) (both (now (mem .entry)) (now (marks .entry))) ⌝ }
+    requires { ⌜ Prepared (now map) (now sizes) (now mem) (now marks) × (base < 32) × (source < 32) ⌝ }
+    ensures { λ r. ⌜ after (wentOf r) (both (now (cells .entry)) (now (tags .entry))) (both (now (mem .exit)) (now (marks .exit))) ≡ store size disp base source len (now (map .entry)) (openOf o) (both (now (cells .entry)) (now (tags .entry))) (both (now (mem .entry)) (now (marks .entry))) ⌝ }
 {
     let b = cells::reg(cells, tags, base);
     if b.mark {
         return core::leak(o);
     }
     let a = address(size, b.val, disp);
-    match regions::find(map, regions::WRITE, a) {
+    match regions::find(map, sizes, regions::WRITE, a) {
         Spot::At(p) => {
             let v = cells::reg(cells, tags, source);
             memory::store(size, mem, marks, p, v);
@@ -102,28 +104,29 @@ pub fn bitwise(
     disp: u32,
     base: u32,
     map: &[u32; 16],
-    o: Open,
+    sizes: &[u32; 12],
+    o: Packed,
     cells: &mut [u32; 38],
     tags: &mut [u8; 38],
     mem: &mut [u8],
     marks: &[u8],
 ) -> Out
-    requires { ⌜ Ready (now map) (now mem) (now marks) × (bit < 8) × (base < 32) ⌝ }
-    ensures { λ r. ⌜ after (wentOf r) (both (now (cells .exit)) (now (tags .exit))) (both (now (mem .exit)) (now (marks .entry))) ≡ bitwise op bit disp base (now (map .entry)) o (both (now (cells .entry)) (now (tags .entry))) (both (now (mem .entry)) (now (marks .entry))) ⌝ }
+    requires { ⌜ Prepared (now map) (now sizes) (now mem) (now marks) × (bit < 8) × (base < 32) ⌝ }
+    ensures { λ r. ⌜ after (wentOf r) (both (now (cells .exit)) (now (tags .exit))) (both (now (mem .exit)) (now (marks .entry))) ≡ bitwise op bit disp base (now (map .entry)) (openOf o) (both (now (cells .entry)) (now (tags .entry))) (both (now (mem .entry)) (now (marks .entry))) ⌝ }
 {
     let b = cells::reg(&*cells, &*tags, base);
     if b.mark {
         return core::leak(o);
     }
     let a = address(Size::Byte, b.val, disp);
-    match regions::find(map, regions::READ, a) {
+    match regions::find(map, sizes, regions::READ, a) {
         Spot::At(p) => {
             let t = memory::tested(bit, &*mem, marks, p);
             if memory::only_tests(op) {
                 psw::set_z(t.z, t.mark, cells, tags);
                 return core::next(core::plus(4, o));
             }
-            match regions::find(map, regions::WRITE, a) {
+            match regions::find(map, sizes, regions::WRITE, a) {
                 Spot::At(_) => {
                     psw::set_z(t.z, t.mark, cells, tags);
                     memory::change(op, bit, mem, p);

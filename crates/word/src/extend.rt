@@ -3,42 +3,44 @@ ghost use mathlib.Core.Path.{_≡_};
 ghost use Prim.Native.Nat.{_*_, _<_, _^_};
 ghost use Rattle.word.specs.Extend.{zeroExtend, bySign, signExtend, highHalf, sum24};
 
-// n counted by its sign, in a field that ends at twice half.
-fn by_sign(half: u32, n: u32) -> u32
-    requires { ⌜ (n < 2 * half) × (half < 2 ^ 31) ⌝ }
-    ensures { λ r. ⌜ r ≡ bySign half n ⌝ }
+// n counted by its sign: bit k, the highest that it has. That bit turned over, and its worth taken away, is right for both signs,
+// so there is no branch.
+fn by_sign(k: u32, n: u32) -> u32
+    requires { ⌜ (k < 31) × (n < 2 * 2 ^ k) ⌝ }
+    ensures { λ r. ⌜ r ≡ bySign (2 ^ k) n ⌝ }
 {
-    if n < half { n } else { !(2 * half - 1 - n) }
+    let half = 1u32 << k;
+    std::num::wrapping_sub_u32(n ^ half, half)
 }
 
 pub fn sign5(n: u32) -> u32
     ensures { λ r. ⌜ r ≡ signExtend 5 n ⌝ }
 {
-    by_sign(16, n % 32)
+    by_sign(4, n % 32)
 }
 
 pub fn sign8(n: u32) -> u32
     ensures { λ r. ⌜ r ≡ signExtend 8 n ⌝ }
 {
-    by_sign(128, n % 256)
+    by_sign(7, n % 256)
 }
 
 pub fn sign9(n: u32) -> u32
     ensures { λ r. ⌜ r ≡ signExtend 9 n ⌝ }
 {
-    by_sign(256, n % 512)
+    by_sign(8, n % 512)
 }
 
 pub fn sign16(n: u32) -> u32
     ensures { λ r. ⌜ r ≡ signExtend 16 n ⌝ }
 {
-    by_sign(32768, n % 65536)
+    by_sign(15, n % 65536)
 }
 
 pub fn sign22(n: u32) -> u32
     ensures { λ r. ⌜ r ≡ signExtend 22 n ⌝ }
 {
-    by_sign(2097152, n % 4194304)
+    by_sign(21, n % 4194304)
 }
 
 pub fn zero5(n: u32) -> u32

@@ -1,6 +1,6 @@
 // The sixteen conditions, over the five flags as the low bits of PSW.
 ghost use mathlib.Core.Path.{_≡_};
-ghost use Prim.Native.Nat.{ℕ, _<_};
+ghost use Prim.Native.Nat.{ℕ, _-_, _^_, _<_};
 ghost use Rattle.word.specs.Shifts.{bit};
 ghost use Rattle.word.specs.Flags.{unpacked, holds, reads};
 
@@ -28,66 +28,81 @@ const S_OR_OV: u32 = S | OV;
 
 const S_OR_OV_OR_Z: u32 = S_OR_OV | Z;
 
-// The settings in which condition k is true.
-fn true_in(k: u32) -> u32
-    ensures { λ r. ⌜ ((n : ℕ) → n < 32 → bit n r ≡ holds k (unpacked n)) ⌝ }
+// Of a condition: the settings in which it is true, and those in which a flag that it reads is 1.
+pub struct Sets {
+    pub true_in: u32,
+    pub read_in: u32,
+}
+
+// True in the settings s, or in all but these; read in s either way.
+fn plain(s: u32) -> Sets
+    ensures { λ r. ⌜ (r .true_in ≡ s) × (r .read_in ≡ s) ⌝ }
 {
-    match k {
-        0 => OV,
-        1 => CY,
-        2 => Z,
-        3 => CY_OR_Z,
-        4 => S,
-        5 => !NONE,
-        6 => S_XOR_OV,
-        7 => S_XOR_OV_OR_Z,
-        8 => !OV,
-        9 => !CY,
-        10 => !Z,
-        11 => !CY_OR_Z,
-        12 => !S,
-        13 => SAT,
-        14 => !S_XOR_OV,
-        15 => !S_XOR_OV_OR_Z,
-        _ => NONE,
+    Sets {
+        true_in: s,
+        read_in: s,
     }
 }
 
-// The settings in which a flag that condition k reads is 1.
-fn read_in(k: u32) -> u32
-    ensures { λ r. ⌜ ((n : ℕ) → n < 32 → bit n r ≡ reads k (unpacked n)) ⌝ }
+fn negated(s: u32) -> Sets
+    ensures { λ r. ⌜ (r .true_in ≡ 2 ^ 32 - 1 - s) × (r .read_in ≡ s) ⌝ }
 {
-    match k {
-        0 => OV,
-        1 => CY,
-        2 => Z,
-        3 => CY_OR_Z,
-        4 => S,
-        5 => NONE,
-        6 => S_OR_OV,
-        7 => S_OR_OV_OR_Z,
-        8 => OV,
-        9 => CY,
-        10 => Z,
-        11 => CY_OR_Z,
-        12 => S,
-        13 => SAT,
-        14 => S_OR_OV,
-        15 => S_OR_OV_OR_Z,
-        _ => NONE,
+    Sets {
+        true_in: !s,
+        read_in: s,
     }
 }
 
-// Condition k is true of the flags.
-pub fn holds(k: u32, flags: u32) -> bool
-    ensures { λ r. ⌜ r ≡ holds k (unpacked flags) ⌝ }
+// Both of condition k, from one table: the truth and the mark are looked up together.
+fn sets_of(k: u32) -> Sets
+    ensures { λ r. ⌜ ((n : ℕ) → n < 32 → bit n (r .true_in) ≡ holds k (unpacked n)) × ((n : ℕ) → n < 32 → bit n (r .read_in) ≡ reads k (unpacked n)) ⌝ }
 {
-    (true_in(k) >> (flags % 32)) % 2 == 1
+    match k {
+        0 => plain(OV),
+        1 => plain(CY),
+        2 => plain(Z),
+        3 => plain(CY_OR_Z),
+        4 => plain(S),
+        5 => negated(NONE),
+        6 => Sets {
+            true_in: S_XOR_OV,
+            read_in: S_OR_OV,
+        },
+        7 => Sets {
+            true_in: S_XOR_OV_OR_Z,
+            read_in: S_OR_OV_OR_Z,
+        },
+        8 => negated(OV),
+        9 => negated(CY),
+        10 => negated(Z),
+        11 => negated(CY_OR_Z),
+        12 => negated(S),
+        13 => plain(SAT),
+        14 => Sets {
+            true_in: !S_XOR_OV,
+            read_in: S_OR_OV,
+        },
+        15 => Sets {
+            true_in: !S_XOR_OV_OR_Z,
+            read_in: S_OR_OV_OR_Z,
+        },
+        _ => plain(NONE),
+    }
 }
 
-// Condition k reads one of the flags that are 1.
-pub fn reads(k: u32, flags: u32) -> bool
-    ensures { λ r. ⌜ r ≡ reads k (unpacked flags) ⌝ }
+// Of a condition: whether it is true of the flags, and whether it reads one that is marked.
+pub struct Judged {
+    pub holds: bool,
+    pub reads: bool,
+}
+
+// Condition k, of the flags and of their marks.
+pub fn judge(k: u32, flags: u32, marks: u32) -> Judged
+    ensures { λ r. ⌜ (r .holds ≡ holds k (unpacked flags)) × (r .reads ≡ reads k (unpacked marks)) ⌝ }
 {
-    (read_in(k) >> (flags % 32)) % 2 == 1
+    let s = sets_of(k);
+    Judged {
+        holds: (s.true_in >> (flags % 32)) % 2 == 1,
+        reads: (s.read_in >> (marks % 32)) % 2 == 1,
+    }
 }

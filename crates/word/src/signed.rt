@@ -2,6 +2,7 @@
 ghost use mathlib.Core.Path.{_≡_};
 ghost use Rattle.word.specs.Word.{signed, signedHalf, wordOf, computed};
 use crate::Computed;
+use crate::extend;
 
 // The word a as a signed number.
 pub fn signed(a: u32) -> i32
@@ -18,12 +19,7 @@ pub fn signed(a: u32) -> i32
 pub fn signed_half(a: u32) -> i32
     ensures { λ r. ⌜ r ≡ signedHalf a ⌝ }
 {
-    let h = a % 65536;
-    if h < 32768 {
-        h as i32
-    } else {
-        !((65535 - h) as i32)
-    }
+    signed(extend::sign16(a))
 }
 
 // The word of a signed number.

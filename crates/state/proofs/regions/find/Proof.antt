@@ -1,40 +1,42 @@
 -- What is found from region 0 on is what is found from region k on: the regions before k do not cover the address.
+use borrow.Author.Needs.{needs}
 use mathlib.Core.Path.{_≡_, refl, sym, _∙_}
-use Prim.Native.Nat.{_^_, _-_, _≤_}
 use native.Mathlib.Omega.{arith}
 use denote.Ref.{now}
-use Rattle.machine.specs.RegionLaws.{covered}
+use Prim.Native.Nat.{_^_, _-_, _≤_}
+use Rattle.word.specs.Sums.{difference}
+use Rattle.machine.specs.Regions.{base, findFrom}
+use Rattle.state.specs.Windows.{seen}
+use Rattle.state.specs.WindowLaws.{inside, outside}
 use Rattle.state.proofs.Search.{hit, miss}
-use borrow.Author.Needs.{needs}
-use Rattle.machine.specs.Regions.{findFrom}
 use Rattle.state.proofs.regions.find.Statement.{statement}
 use Rattle.state.proofs.regions.find.Tie as tie
 
 abbrev Inv-loop : tie.InvT-loop
-Inv-loop map right a k₀ k = (k ≤ 4) × (findFrom map (2 ^ right) a 4 0 ≡ findFrom map (2 ^ right) a (4 - k) k)
+Inv-loop map sizes right a k₀ k = (k ≤ 4) × (findFrom map (2 ^ right) a 4 0 ≡ findFrom map (2 ^ right) a (4 - k) k)
 
 abbrev μ-loop : tie.MeasureT-loop
-μ-loop map right a k₀ k = 4 - k
+μ-loop map sizes right a k₀ k = 4 - k
 
 loop-holds : tie.Need-loop-holds Inv-loop μ-loop
 loop-holds c = (omega arith, refl)
 
-covers-requires : tie.Need-covers-requires Inv-loop μ-loop
-covers-requires c κs = search needs
+base-requires : tie.Need-base-requires Inv-loop μ-loop
+base-requires c κs = search needs
+
+difference-requires : tie.Need-difference-requires Inv-loop μ-loop
+difference-requires c κs = search needs
+
+size-to-requires : tie.Need-size-to-requires Inv-loop μ-loop
+size-to-requires c κs =
+    let pre′ = c .before .before .before .before .pre in
+    (pre′ .0, omega arith)
 
 offset-requires : tie.Need-offset-requires Inv-loop μ-loop
 offset-requires c κs = search needs
 
-cast-t8 : tie.Need-cast-t8 Inv-loop μ-loop
-cast-t8 c = search needs
-
-base-requires : tie.Need-base-requires Inv-loop μ-loop
-base-requires c κs = search needs
-
-sub-t10 : tie.Need-sub-t10 Inv-loop μ-loop
-sub-t10 c = let k = c .before .before .before in
-    let h = covered (now (k .before .before .before .args .map)) _ _ _ (sym (k .covers .ensures) ∙ c .before .before .if1 .taken) in
-    omega (arith, c .base .ensures, h .above)
+cast-t10 : tie.Need-cast-t10 Inv-loop μ-loop
+cast-t10 c = search needs
 
 cast-t11 : tie.Need-cast-t11 Inv-loop μ-loop
 cast-t11 c = search needs
@@ -43,9 +45,17 @@ add-t12 : tie.Need-add-t12 Inv-loop μ-loop
 add-t12 c = search needs
 
 returns : tie.Need-returns Inv-loop μ-loop
-returns c = let k = c .before .before .before in
-    rw (c .before .offset .ensures, c .base .ensures)
-    (sym (k .before .before .loop .inv .1 ∙ hit _ _ _ _ (omega arith) (sym (k .covers .ensures) ∙ c .before .before .if1 .taken)))
+returns c =
+    let args′ = c .before .before .before .before .before .before .before .args in
+    let pre′ = c .before .before .before .before .before .before .before .pre in
+    let loop′ = c .before .before .before .before .before .before .loop in
+    let base′ = c .before .before .before .before .base in
+    let difference′ = c .before .before .before .difference in
+    let size-to′ = c .before .before .size-to in
+    let d : difference′ .result ≡ difference (args′ .a) (base (now (args′ .map)) (loop′ .k)) = difference′ .ensures ∙ rw (base′ .ensures) in
+    let s : size-to′ .result ≡ seen (now (args′ .map)) (args′ .right) (loop′ .k) = size-to′ .ensures ∙ pre′ .1 .each (args′ .right) (loop′ .k) (pre′ .0) (omega arith) in
+    let h = inside (now (args′ .map)) (args′ .right) (args′ .a) (loop′ .k) (pre′ .2 (loop′ .k) (omega arith)) (omega arith) (rw (← d, ← s) (c .before .if1 .taken)) in
+    rw (c .offset .ensures, d, h .1) (sym (loop′ .inv .1 ∙ hit _ _ _ _ (omega arith) (h .0)))
 
 add-k : tie.Need-add-k Inv-loop μ-loop
 add-k c = search needs
@@ -54,8 +64,14 @@ loop-less : tie.Need-loop-less Inv-loop μ-loop
 loop-less c = omega arith
 
 loop-again : tie.Need-loop-again Inv-loop μ-loop
-loop-again c = let k = c .before in
-    (omega arith, k .before .before .loop .inv .1 ∙ miss _ _ _ _ (omega arith) (sym (k .covers .ensures) ∙ c .if1 .left))
+loop-again c =
+    let args′ = c .before .before .before .before .before .before .args in
+    let pre′ = c .before .before .before .before .before .before .pre in
+    let loop′ = c .before .before .before .before .before .loop in
+    let difference′ = c .before .before .difference in
+    let d : difference′ .result ≡ difference (args′ .a) (base (now (args′ .map)) (loop′ .k)) = difference′ .ensures ∙ rw (c .before .before .before .base .ensures) in
+    let s : c .before .size-to .result ≡ seen (now (args′ .map)) (args′ .right) (loop′ .k) = c .before .size-to .ensures ∙ pre′ .1 .each (args′ .right) (loop′ .k) (pre′ .0) (omega arith) in
+    (omega arith, loop′ .inv .1 ∙ miss _ _ _ _ (omega arith) (outside (now (args′ .map)) (args′ .right) (args′ .a) (loop′ .k) (pre′ .2 (loop′ .k) (omega arith)) (omega arith) (rw (← d, ← s) (c .if1 .left))))
 
 returns-2 : tie.Need-returns-2 Inv-loop μ-loop
 unfolding findFrom
@@ -68,11 +84,11 @@ find-spec =
     Inv-loop
     μ-loop
     loop-holds
-    covers-requires
-    offset-requires
-    cast-t8
     base-requires
-    sub-t10
+    difference-requires
+    size-to-requires
+    offset-requires
+    cast-t10
     cast-t11
     add-t12
     returns

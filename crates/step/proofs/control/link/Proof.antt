@@ -1,10 +1,13 @@
 -- The next PC to the register, then the jump.
 use mathlib.Core.Path.{refl, _∙_}
-use borrow.Author.Needs.{needs}
-use Rattle.machine.specs.Step.{jarl}
 use Rattle.step.specs.StepLaws.{on}
+use Rattle.machine.specs.Step.{jarl}
+use borrow.Author.Needs.{needs}
 use Rattle.step.proofs.control.link.Statement.{statement}
 use Rattle.step.proofs.control.link.Tie as tie
+
+pc-requires : tie.Need-pc-requires
+pc-requires c κs = search needs
 
 sum24-requires : tie.Need-sum24-requires
 sum24-requires c κs = search needs
@@ -21,10 +24,10 @@ next-requires c κs = search needs
 returns : tie.Need-returns
 unfolding jarl
 returns c =
-    let s = c .before .before .before in
-    λ m.
-    on (c .next .ensures) (c .before .plus .ensures) (c .before .before .put-reg .ensures ∙ rw (s .sum24 .ensures)) refl
+    let pc′ = c .before .before .before .before .pc in
+    λ m. on (c .next .ensures) (c .before .plus .ensures) (c .before .before .put-reg .ensures ∙ rw (c .before .before .before .sum24 .ensures, pc′ .ensures)) refl
 
 pub link-spec : {M : Type 1} → statement M
 link-spec =
-    tie.close (tie.spec sum24-requires put-reg-requires plus-requires next-requires returns)
+    tie.close
+    (tie.spec pc-requires sum24-requires put-reg-requires plus-requires next-requires returns)

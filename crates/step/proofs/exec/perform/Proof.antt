@@ -1,7 +1,11 @@
-use mathlib.Core.Path.{refl, subst}
-use borrow.Author.Needs.{needs}
+-- Each task by its definition: the arm of the match is the arm of `doTask`.
+use mathlib.Core.Path.{refl, _∙_, subst}
+use denote.Ref.{now}
 use Rattle.step.specs.Tasks.{doTask, TaskFields}
+use Rattle.step.specs.CoreLaws.{system-fits, wide-fits, settled}
 use Rattle.step.specs.StepLaws.{on}
+use Rattle.machine.specs.Marked.{both}
+use borrow.Author.Needs.{needs}
 use Rattle.step.proofs.exec.perform.Statement.{statement}
 use Rattle.step.proofs.exec.perform.Tie as tie
 
@@ -9,7 +13,9 @@ enum-known-t : tie.Need-enum-known-t
 enum-known-t c = search needs
 
 operate-requires : tie.Need-operate-requires
-operate-requires c κs = subst TaskFields (c .before .before .before .t .given .1) (c .before .before .before .before .before .before .before .pre .1)
+operate-requires c κs =
+    let pre′ = c .before .before .before .before .before .before .before .pre in
+    subst TaskFields (c .before .before .before .t .given .1) (pre′ .1)
 
 plus-requires : tie.Need-plus-requires
 plus-requires c κs = search needs
@@ -21,25 +27,36 @@ enum-known-t-2 : tie.Need-enum-known-t-2
 enum-known-t-2 c = search needs
 
 load-requires : tie.Need-load-requires
-load-requires c κs = let f = subst TaskFields (c .before .before .before .before .before .t2 .given .1) (c .before .before .before .before .before .before .before .before .before .pre .1) in (c .before .before .before .before .before .before .before .before .before .pre .0, f .0, f .1)
+load-requires c κs =
+    let pre′ = c .before .before .before .before .before .before .before .before .before .pre in
+    let t2′ = c .before .before .before .before .before .t2 in
+    let f = subst TaskFields (t2′ .given .1) (pre′ .1) in (pre′ .0, f .0, f .1)
 
 enum-known-t-3 : tie.Need-enum-known-t-3
 enum-known-t-3 c = search needs
 
 store-requires : tie.Need-store-requires
-store-requires c κs = let f = subst TaskFields (c .before .before .before .before .before .t3 .given .1) (c .before .before .before .before .before .before .before .before .before .pre .1) in (c .before .before .before .before .before .before .before .before .before .pre .0, f .0, f .1)
+store-requires c κs =
+    let pre′ = c .before .before .before .before .before .before .before .before .before .pre in
+    let t3′ = c .before .before .before .before .before .t3 in
+    let f = subst TaskFields (t3′ .given .1) (pre′ .1) in (pre′ .0, f .0, f .1)
 
 enum-known-t-4 : tie.Need-enum-known-t-4
 enum-known-t-4 c = search needs
 
 bitwise-requires : tie.Need-bitwise-requires
-bitwise-requires c κs = let f = subst TaskFields (c .before .before .before .before .before .t4 .given .1) (c .before .before .before .before .before .before .before .before .before .pre .1) in (c .before .before .before .before .before .before .before .before .before .pre .0, f .0, f .1)
+bitwise-requires c κs =
+    let pre′ = c .before .before .before .before .before .before .before .before .before .pre in
+    let t4′ = c .before .before .before .before .before .t4 in
+    let f = subst TaskFields (t4′ .given .1) (pre′ .1) in (pre′ .0, f .0, f .1)
 
 enum-known-t-5 : tie.Need-enum-known-t-5
 enum-known-t-5 c = search needs
 
 jump-requires : tie.Need-jump-requires
-jump-requires c κs = subst TaskFields (c .before .before .before .t5 .given .1) (c .before .before .before .before .before .before .before .pre .1)
+jump-requires c κs =
+    let pre′ = c .before .before .before .before .before .before .before .pre in
+    subst TaskFields (c .before .before .before .t5 .given .1) (pre′ .1)
 
 enum-known-t-6 : tie.Need-enum-known-t-6
 enum-known-t-6 c = search needs
@@ -51,23 +68,40 @@ enum-known-t-7 : tie.Need-enum-known-t-7
 enum-known-t-7 c = search needs
 
 link-requires : tie.Need-link-requires
-link-requires c κs = subst TaskFields (c .before .before .before .t7 .given .1) (c .before .before .before .before .before .before .before .pre .1)
+link-requires c κs =
+    let pre′ = c .before .before .before .before .before .before .before .pre in
+    subst TaskFields (c .before .before .before .t7 .given .1) (pre′ .1)
 
 enum-known-t-8 : tie.Need-enum-known-t-8
 enum-known-t-8 c = search needs
 
 set-condition-requires : tie.Need-set-condition-requires
-set-condition-requires c κs = subst TaskFields (c .before .before .before .t8 .given .1) (c .before .before .before .before .before .before .before .pre .1)
+set-condition-requires c κs =
+    let pre′ = c .before .before .before .before .before .before .before .pre in
+    subst TaskFields (c .before .before .before .t8 .given .1) (pre′ .1)
 
 enum-known-t-9 : tie.Need-enum-known-t-9
 enum-known-t-9 c = search needs
 
+unpack-requires : tie.Need-unpack-requires
+unpack-requires c κs = search needs
+
 system-requires : tie.Need-system-requires
-system-requires c κs = subst TaskFields (c .before .before .before .t9 .given .1) (c .before .before .before .before .before .before .before .pre .1)
+system-requires c κs =
+    let pre′ = c .before .before .before .before .before .before .before .before .pre in
+    let t9′ = c .before .before .before .before .t9 in
+    subst TaskFields (t9′ .given .1) (pre′ .1)
+
+settle-requires : tie.Need-settle-requires
+settle-requires c κs =
+    let args′ = c .before .before .before .before .before .before .before .before .before .args in
+    wide-fits (c .system .result) (c .system .ensures (both (now (args′ .mem)) (now (args′ .marks)))) (system-fits (c .before .before .before .unpack .ensures .1) _)
 
 returns : tie.Need-returns
 unfolding doTask
-returns c = rw (c .before .before .before .before .before .before .t .given .1) (on (c .next .ensures) (c .before .plus .ensures) (c .before .before .operate .ensures) refl)
+returns c =
+    let t′ = c .before .before .before .before .before .before .t in
+    rw (t′ .given .1) (on (c .next .ensures) (c .before .plus .ensures) (c .before .before .operate .ensures) refl)
 
 same-length : tie.Need-same-length
 same-length c = search needs
@@ -77,7 +111,9 @@ same-length-2 c = search needs
 
 returns-2 : tie.Need-returns-2
 unfolding doTask
-returns-2 c = rw (c .before .before .before .before .before .before .t2 .given .1) (c .load .ensures)
+returns-2 c =
+    let t2′ = c .before .before .before .before .before .before .t2 in
+    rw (t2′ .given .1) (c .load .ensures)
 
 same-length-3 : tie.Need-same-length-3
 same-length-3 c = search needs
@@ -87,7 +123,10 @@ same-length-4 c = search needs
 
 returns-3 : tie.Need-returns-3
 unfolding doTask
-returns-3 c = rw (c .before .before .before .before .before .before .before .before .before .before .t3 .given .1) (c .before .before .before .before .store .ensures)
+returns-3 c =
+    let t3′ = c .before .before .before .before .before .before .before .before .before .before .t3 in
+    let store′ = c .before .before .before .before .store in
+    rw (t3′ .given .1) (store′ .ensures)
 
 same-length-5 : tie.Need-same-length-5
 same-length-5 c = search needs
@@ -97,27 +136,40 @@ same-length-6 c = search needs
 
 returns-4 : tie.Need-returns-4
 unfolding doTask
-returns-4 c = rw (c .before .before .before .before .before .before .before .before .t4 .given .1) (c .before .before .bitwise .ensures)
+returns-4 c =
+    let t4′ = c .before .before .before .before .before .before .before .before .t4 in
+    rw (t4′ .given .1) (c .before .before .bitwise .ensures)
 
 returns-5 : tie.Need-returns-5
 unfolding doTask
-returns-5 c = rw (c .before .before .before .before .t5 .given .1) (c .jump .ensures _)
+returns-5 c =
+    let t5′ = c .before .before .before .before .t5 in
+    rw (t5′ .given .1) (c .jump .ensures _)
 
 returns-6 : tie.Need-returns-6
 unfolding doTask
-returns-6 c = rw (c .before .before .before .before .t6 .given .1) (c .branch .ensures _)
+returns-6 c =
+    let t6′ = c .before .before .before .before .t6 in
+    rw (t6′ .given .1) (c .branch .ensures _)
 
 returns-7 : tie.Need-returns-7
 unfolding doTask
-returns-7 c = rw (c .before .before .before .before .t7 .given .1) (c .link .ensures _)
+returns-7 c =
+    let t7′ = c .before .before .before .before .t7 in
+    rw (t7′ .given .1) (c .link .ensures _)
 
 returns-8 : tie.Need-returns-8
 unfolding doTask
-returns-8 c = rw (c .before .before .before .before .t8 .given .1) (c .set-condition .ensures _)
+returns-8 c =
+    let t8′ = c .before .before .before .before .t8 in
+    rw (t8′ .given .1) (c .set-condition .ensures _)
 
 returns-9 : tie.Need-returns-9
 unfolding doTask
-returns-9 c = rw (c .before .before .before .before .t9 .given .1) (c .system .ensures _)
+returns-9 c =
+    let t9′ = c .before .before .before .before .before .before .t9 in
+    let unpack′ = c .before .before .before .before .unpack in
+    rw (t9′ .given .1) (settled (c .before .system .result) (c .settle .result) (c .settle .ensures) (c .before .system .ensures _ ∙ rw (unpack′ .ensures .0)))
 
 pub perform-spec : {M : Type 1} → statement M
 perform-spec =
@@ -142,7 +194,9 @@ perform-spec =
     enum-known-t-8
     set-condition-requires
     enum-known-t-9
+    unpack-requires
     system-requires
+    settle-requires
     returns
     same-length
     same-length-2

@@ -1,13 +1,14 @@
--- The proof goes the way of the definition: the base revealed, its address placed to read, and, where it does not only test, to write.
-use mathlib.Core.Path.{refl, sym, _∙_}
 use native.Mathlib.Omega.{arith}
+use Rattle.step.specs.StepLaws.{opened, leaked, placed, nowhere, on, fits, finds}
+use mathlib.Core.Path.{refl, sym, _∙_}
 use borrow.Author.Needs.{needs}
 use Rattle.word.specs.Extend.{sum24}
 use Rattle.insn.specs.declared.Size.the-variants.{Byte}
 use Rattle.machine.specs.Step.{bitwise}
-use Rattle.step.specs.StepLaws.{opened, leaked, placed, nowhere, on, fits}
 use Rattle.step.proofs.transfer.bitwise.Statement.{statement}
 use Rattle.step.proofs.transfer.bitwise.Tie as tie
+
+-- The proof goes the way of the definition: the base revealed, its address placed to read, and, where it does not only test, to write.
 
 reg-requires : tie.Need-reg-requires
 reg-requires c κs = search needs
@@ -23,7 +24,7 @@ address-requires : tie.Need-address-requires
 address-requires c κs = search needs
 
 find-requires : tie.Need-find-requires
-find-requires c κs = search needs
+find-requires c κs = finds (c .before .before .before .before .before .before .before .pre .0) (omega arith)
 
 enum-known-p : tie.Need-enum-known-p
 enum-known-p c = search needs
@@ -62,7 +63,7 @@ returns-2 c =
     (on (c .next .ensures) (c .before .plus .ensures) (c .before .before .set-z .ensures ∙ rw (t .before .before .tested .ensures .0, t .before .before .tested .ensures .1)) refl)))
 
 find-requires-2 : tie.Need-find-requires-2
-find-requires-2 c κs = search needs
+find-requires-2 c κs = finds (c .before .before .before .before .before .before .before .before .before .before .before .before .before .before .before .pre .0) (omega arith)
 
 enum-told : tie.Need-enum-told
 enum-told c = search needs

@@ -1,11 +1,13 @@
--- The proof goes the way of the definition: the base revealed, its address placed, and the bytes written.
+use native.Mathlib.Omega.{arith}
+use Rattle.step.specs.StepLaws.{opened, leaked, placed, nowhere, on, fits, finds}
 use mathlib.Core.Path.{refl, _∙_}
 use borrow.Author.Needs.{needs}
 use Rattle.word.specs.Extend.{sum24}
 use Rattle.machine.specs.Step.{store}
-use Rattle.step.specs.StepLaws.{opened, leaked, placed, nowhere, on, fits}
 use Rattle.step.proofs.transfer.store.Statement.{statement}
 use Rattle.step.proofs.transfer.store.Tie as tie
+
+-- The proof goes the way of the definition: the base revealed, its address placed, and the bytes written.
 
 reg-requires : tie.Need-reg-requires
 reg-requires c κs = search needs
@@ -21,7 +23,7 @@ address-requires : tie.Need-address-requires
 address-requires c κs = search needs
 
 find-requires : tie.Need-find-requires
-find-requires c κs = search needs
+find-requires c κs = finds (c .before .before .before .before .before .pre .0) (omega arith)
 
 enum-known-p : tie.Need-enum-known-p
 enum-known-p c = search needs

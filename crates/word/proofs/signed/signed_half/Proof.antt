@@ -1,33 +1,41 @@
--- The signed number of 16 bits has the same value in 32: h below half, and else the complement of 65535 - h.
-use mathlib.Core.Path.{sym, ap, _∙_}
-use Prim.Native.Nat.{_-_, _%_}
+-- The signed number of a half has the same value in 32 bits: h below 2 ^ 15, and else h with ones above it.
+use mathlib.Core.Path.{_≡_, refl, ap, _∙_}
+use mathlib.Core.Bool.{Bool, true, false}
+use Prim.Native.Nat.{ℕ, _+_, _-_, _%_, _^_, _<_}
 use native.Mathlib.Omega.{arith}
+use lib.Dec.{ltb}
 use lib.IntN.{negsuc}
 use borrow.Author.Needs.{needs}
+use borrow.Author.Tests.{ltb-true, ltb-false}
 use mir.Syntax.{w16, w32}
+use mir.Val.{toZ}
 use mir.Facts.{toZ-pos}
-use Rattle.word.proofs.Readings.{high}
+use Rattle.word.specs.Word.{W, signed}
+use Rattle.word.specs.Extend.{bySign}
+use Rattle.word.proofs.Readings.{high, read-half}
 use Rattle.word.proofs.signed.signed_half.Statement.{statement}
 use Rattle.word.proofs.signed.signed_half.Tie as tie
 
-cast-result : tie.Need-cast-result
-cast-result c = search needs
+same : (h : ℕ) → h < 2 ^ 16 → signed (bySign (2 ^ 15) h) ≡ toZ w16 h
+unfolding bySign
+same h l = go (ltb h (2 ^ 15)) refl
+  where
+    go : (t : Bool) → ltb h (2 ^ 15) ≡ t → signed (bySign (2 ^ 15) h) ≡ toZ w16 h
+    go true t = let b = ltb-true h (2 ^ 15) t in rw t (toZ-pos w32 {n = h} (omega arith))
+    go false t =
+        let b = ltb-false h (2 ^ 15) t in
+        rw t (high w32 (h + (W - 2 ^ 16)) (omega arith) ∙ ap negsuc (omega arith))
 
-sub-result : tie.Need-sub-result
-sub-result c = search needs
+sign16-requires : tie.Need-sign16-requires
+sign16-requires c κs = search needs
 
-cast-result-2 : tie.Need-cast-result-2
-cast-result-2 c = search needs
+signed-requires : tie.Need-signed-requires
+signed-requires c κs = search needs
 
 returns : tie.Need-returns
 returns c =
-    let h = c .before .args .a % 65536 in
-    toZ-pos w32 {n = h} (omega arith) ∙ sym (toZ-pos w16 {n = h} (omega arith))
-
-returns-2 : tie.Need-returns-2
-returns-2 c =
-    let h = c .before .args .a % 65536 in
-    high w32 (4294967295 - (65535 - h)) (omega arith) ∙ ap negsuc (omega arith) ∙ sym (high w16 h (omega arith))
+    let a = c .before .before .args .a in
+    read-half a (c .signed .ensures ∙ ap signed (c .before .sign16 .ensures) ∙ same (a % 2 ^ 16) (omega arith))
 
 pub signed-half-spec : {M : Type 1} → statement M
-signed-half-spec = tie.close (tie.spec cast-result sub-result cast-result-2 returns returns-2)
+signed-half-spec = tie.close (tie.spec sign16-requires signed-requires returns)
