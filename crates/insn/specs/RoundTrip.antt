@@ -1,15 +1,17 @@
 -- Decoding and encoding are each other's inverse: each halfword has one meaning, and each instruction one spelling.
-use mathlib.Core.Path.{_≡_, refl, sym, subst}
-use mathlib.Core.Bool.{true, false, cond, true≢false}
+use mathlib.Core.Path.{_≡_, refl, sym, _∙_, subst}
+use mathlib.Core.Bool.{Bool, true, false, cond, true≢false}
+use mathlib.Core.List.{[]}
 use mathlib.Core.Logic.{_⊎_, inl, inr, _≢_, _↔_}
 use Prim.Native.Nat.{ℕ, _<_, _^_}
+use native.Mathlib.Omega.{arith}
 use borrow.Author.Tests.{le-leb}
 use Rattle.insn.specs.declared.Insn.{Insn}
 use Rattle.insn.specs.declared.Decoded.{Decoded}
 use Rattle.insn.specs.declared.Decoded.the-variants.{Valid, Illegal, Undefined}
 use Rattle.insn.specs.declared.Encoded.{Encoded}
 use Rattle.insn.specs.declared.Encoded.the-variants.{One, Two, Field}
-use Rattle.insn.specs.Coding.{opcodeOf, long, decodeFields, decode, inRange, encode}
+use Rattle.insn.specs.Coding.{opcodeOf, long, decodeFields, decode, inRange, encode, number, listed}
 use Rattle.insn.specs.CodingLaws.{facts, Spells, encode-spells, Encodes, EncodesTo, decode-encodes}
 
 spelled : (i : Insn) {e : Encoded} → encode i ≡ e → Spells e i
@@ -72,6 +74,28 @@ encode-halves i h w e = let s = spelled i e in (s .0, s .1)
 pub encode-refuses : (i : Insn) → (encode i ≡ Field) ↔ (inRange i ≡ false)
 unfolding encode
 encode-refuses i = (λ e. spelled i e, λ n. rw n)
+
+-- The order's numbers: FIELD, with no halfwords, exactly if an operand is out of range, and DONE exactly if none is
+pub encode-numbers : (i : Insn)
+    → ((number (encode i) ≡ number Field) ↔ (inRange i ≡ false)) × ((number (encode i) ≡ 0) ↔ (inRange i ≡ true)) × (inRange i ≡ false → listed (encode i) ≡ [])
+encode-numbers i =
+    ((λ n. refused (inRange i) refl n, out), (λ n. done (inRange i) refl n, within (encode i) refl), λ n. rw (encode-refuses i .1 n))
+  where
+    out : inRange i ≡ false → number (encode i) ≡ number Field
+    out n = rw (encode-refuses i .1 n)
+
+    within : (e : Encoded) → encode i ≡ e → inRange i ≡ true → number e ≡ 0
+    within (One h) q t = refl
+    within (Two h w) q t = refl
+    within Field q t = absurd (true≢false (sym t ∙ encode-refuses i .0 q))
+
+    refused : (t : Bool) → inRange i ≡ t → number (encode i) ≡ number Field → t ≡ false
+    refused true q n = absurd (omega (arith, n, within (encode i) refl q))
+    refused false q n = refl
+
+    done : (t : Bool) → inRange i ≡ t → number (encode i) ≡ 0 → t ≡ true
+    done true q n = refl
+    done false q n = absurd (omega (arith, n, out q))
 
 -- Two instructions that are not refused and have the same halfwords are one
 pub encode-injective : (i j : Insn) → encode i ≢ Field → encode i ≡ encode j → i ≡ j
