@@ -1,4 +1,4 @@
--- Exact results: sums and differences of signed words fit 64 bits, products of signed halves and quotients 32; what saturation stores.
+-- Exact results: products of signed halves and quotients fit 32 bits; what saturation stores of a sum or difference.
 use mathlib.Core.Path.{_≡_, refl, sym, ap, _∙_}
 use mathlib.Core.Bool.{Bool, true, false, cond}
 use Prim.Native.Nat.{ℕ, zero, suc, _+_, _-_, _*_, _/_, _%_, _^_, _≤_, _<_}
@@ -8,13 +8,13 @@ use lib.Dec.{ltb}
 use lib.IntN.{ℤ, pos, negsuc, negℤ, natAbs, subℕ, _+ℤ_, _-ℤ_, _*ℤ_}
 use lib.Signed.{mag, quotZ}
 use borrow.Author.Tests.{ltb-true, ltb-false, lt-ltb, le-ltb}
-use mir.Syntax.{w16, w32, w64}
+use mir.Syntax.{w16, w32}
 use mir.Val.{Fits, SFits, ofZ}
 use Rattle.word.specs.Word.{W, signed, signedHalf, wordOf, greatest, least, overflow, nearest}
 use Rattle.word.specs.Sums.{sum, difference}
 use Rattle.word.proofs.Readings.{signed-fits, signed-size, word-signed, half-fits, half-size, half-signed, neg-size, mag-size}
 
-either : {P : Type 0} (a b : ℕ) → (a < b → P) → (b ≤ a → P) → P
+pub either : {P : Type 0} (a b : ℕ) → (a < b → P) → (b ≤ a → P) → P
 either {P} a b l r = go (ltb a b) refl
   where
     go : (t : Bool) → ltb a b ≡ t → P
@@ -22,17 +22,8 @@ either {P} a b l r = go (ltb a b) refl
     go false e = r (ltb-false a b e)
 
 -- a - b by cases
-by-order : (P : ℤ → Type 0) (a b : ℕ) → (a < b → P (negsuc (b - suc a))) → (b ≤ a → P (pos (a - b))) → P (subℕ a b)
+pub by-order : (P : ℤ → Type 0) (a b : ℕ) → (a < b → P (negsuc (b - suc a))) → (b ≤ a → P (pos (a - b))) → P (subℕ a b)
 by-order P a b l r = either a b (λ h. rw (lt-ltb a b h) (l h)) (λ h. rw (le-ltb a b h) (r h))
-
-mag-add : (x t : ℤ) (n : ℕ) → natAbs x ≤ n → natAbs t ≤ n → mag (x +ℤ t) ≤ n + n
-mag-add (pos a) (pos b) n h k = omega arith
-mag-add (pos a) (negsuc b) n h k = by-order (λ z. mag z ≤ n + n) a (suc b) (λ l. omega arith) (λ l. omega arith)
-mag-add (negsuc a) (pos b) n h k = by-order (λ z. mag z ≤ n + n) b (suc a) (λ l. omega arith) (λ l. omega arith)
-mag-add (negsuc a) (negsuc b) n h k = omega arith
-
-exact-fits : (x t : ℤ) → natAbs x ≤ 2 ^ 31 → natAbs t ≤ 2 ^ 31 → SFits w64 (x +ℤ t)
-exact-fits x t h k = record { sfits = omega (arith, mag-add x t (2 ^ 31) h k) }
 
 -- a signed word does not overflow, and is the nearest to itself
 pub within : (z : ℤ) → SFits w32 z → (overflow z ≡ false) × (nearest z ≡ z)
@@ -88,12 +79,6 @@ word-negated (negsuc n) a b f e = omega (arith, f .sfits)
 module _ {a b : ℕ} (f : Fits w32 a) (g : Fits w32 b) where
   negated-size : natAbs (negℤ (signed b)) ≤ 2 ^ 31
   negated-size = rw neg-size (signed-size g)
-
-  pub sum-fits : SFits w64 (signed a +ℤ signed b)
-  sum-fits = exact-fits (signed a) (signed b) (signed-size f) (signed-size g)
-
-  pub difference-fits : SFits w64 (signed a -ℤ signed b)
-  difference-fits = exact-fits (signed a) (negℤ (signed b)) (signed-size f) negated-size
 
   pub saturated-sum : Stored a (signed a +ℤ signed b) (sum a b)
   saturated-sum = rw (word-signed f, word-signed g) at (stored (signed a) (signed b) (signed-fits f) (signed-size g))

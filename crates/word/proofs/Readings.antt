@@ -6,7 +6,7 @@ use native.Mathlib.Omega.{arith}
 use lib.IntN.{ℤ, pos, negsuc, negℤ, natAbs}
 use lib.Signed.{ltZ, mag, shrZ, mag-shr, natAbs-le}
 use borrow.Author.Tests.{ltb-true, le-ltb}
-use mir.Syntax.{Width, w16, w32, w64}
+use mir.Syntax.{Width, w16, w32}
 use mir.Val.{Fits, SFits, ofZ, toZ, bits, hbits}
 use mir.Facts.{toZ-ofZ, ofZ-toZ, sfits-toZ, sfits-widen, fits-of-lt}
 use mir.ValLaws.{sfits-le}
@@ -31,9 +31,6 @@ module _ {a : ℕ} (f : Fits w32 a) where
   pub signed-fits : SFits w32 (signed a)
   signed-fits = sfits-toZ {w = w32} f
 
-  wide-fits : SFits w64 (signed a)
-  wide-fits = sfits-widen {w = w32} {w′ = w64} tt signed-fits
-
   pub signed-size : natAbs (signed a) ≤ 2 ^ 31
   signed-size = natAbs-le (signed a) (signed-fits .sfits)
 
@@ -43,12 +40,6 @@ module _ {a : ℕ} (f : Fits w32 a) where
   module _ {r : ℤ} (e : r ≡ signed a) where
     pub read-word : toZ w32 (ofZ w32 r) ≡ signed a
     read-word = rw e (toZ-ofZ {w = w32} signed-fits)
-
-    pub read-wide : toZ w64 (ofZ w64 (toZ w32 (ofZ w32 r))) ≡ signed a
-    read-wide = rw read-word (toZ-ofZ {w = w64} wide-fits)
-
-    pub cast-wide : SFits w64 (toZ w32 (ofZ w32 r))
-    cast-wide = rw read-word wide-fits
 
     pub read-shifted : (m : ℕ) → toZ w32 (ofZ w32 (shrZ (toZ w32 (ofZ w32 r)) m)) ≡ shrZ (signed a) m
     read-shifted m = rw read-word (toZ-ofZ {w = w32} (sfits-le (mag-shr (signed a) m) signed-fits))

@@ -1,7 +1,7 @@
 // Sums and differences of words. They wrap on purpose.
 ghost use mathlib.Core.Path.{_≡_};
 ghost use mathlib.Core.Bool.{cond};
-ghost use Prim.Native.Nat.{_-_, _^_};
+ghost use Prim.Native.Nat.{_-_, _/_, _^_};
 ghost use lib.Dec.{ltb};
 ghost use lib.IntN.{_+ℤ_, _-ℤ_};
 ghost use Rattle.word.specs.Word.{signed, overflow};
@@ -22,37 +22,33 @@ pub fn difference(a: u32, b: u32) -> u32
     std::num::wrapping_sub_u32(a, b)
 }
 
+// A sum that wrapped is less than each of its parts.
 fn carry(a: u32, b: u32) -> bool
     ensures { λ r. ⌜ r ≡ carry a b ⌝ }
 {
-    4294967296 <= a as u64 + b as u64
+    sum(a, b) < a
 }
 
-// An exact result is no signed word.
-fn overflow(z: i64) -> bool
-    ensures { λ r. ⌜ r ≡ overflow z ⌝ }
+fn sign(a: u32) -> u32
+    ensures { λ r. ⌜ r ≡ a / 2 ^ 31 ⌝ }
 {
-    if 2147483647 < z {
-        return true;
-    }
-    z < -2147483648
+    a / 2147483648
 }
 
-// OV of the shared sum and difference, from the exact results in 64 bits.
+// OV of the shared sum: both operands differ from it in sign.
 fn sum_overflow(a: u32, b: u32) -> bool
     ensures { λ r. ⌜ r ≡ overflow (signed a +ℤ signed b) ⌝ }
 {
-    let x = signed::signed(a) as i64;
-    let y = signed::signed(b) as i64;
-    overflow(x + y)
+    let s = sign(sum(a, b));
+    (sign(a) ^ s) & (sign(b) ^ s) == 1
 }
 
+// OV of the shared difference: a differs in sign from b and from the result.
 fn difference_overflow(a: u32, b: u32) -> bool
     ensures { λ r. ⌜ r ≡ overflow (signed a -ℤ signed b) ⌝ }
 {
-    let x = signed::signed(a) as i64;
-    let y = signed::signed(b) as i64;
-    overflow(x - y)
+    let s = sign(difference(a, b));
+    (sign(a) ^ sign(b)) & (sign(a) ^ s) == 1
 }
 
 // ADD: a + b.

@@ -1,51 +1,46 @@
--- The exact difference of two signed words fits 64 bits, so it is read back as it is.
+-- The callees give the three signs, and these tell of overflow (`difference-tells`).
 use borrow.Author.Needs.{needs}
-use mir.Syntax.{w64}
-use mir.Facts.{toZ-ofZ}
-use Rattle.word.proofs.Readings.{read-wide, cast-wide}
-use Rattle.word.proofs.Exact.{difference-fits}
+use Rattle.word.proofs.Overflow.{difference-tells}
 use Rattle.word.proofs.sums.difference_overflow.Statement.{statement}
 use Rattle.word.proofs.sums.difference_overflow.Tie as tie
 
-signed-requires : tie.Need-signed-requires
-signed-requires c κs = search needs
+difference-requires : tie.Need-difference-requires
+difference-requires c κs = search needs
 
-cast-x : tie.Need-cast-x
-cast-x c = cast-wide (c .before .fits .a) (c .signed .ensures)
+sign-requires : tie.Need-sign-requires
+sign-requires c κs = search needs
 
-signed-requires-2 : tie.Need-signed-requires-2
-signed-requires-2 c κs = search needs
+sign-requires-2 : tie.Need-sign-requires-2
+sign-requires-2 c κs = search needs
 
-cast-y : tie.Need-cast-y
-cast-y c = cast-wide (c .before .before .fits .b) (c .signed2 .ensures)
+sign-requires-3 : tie.Need-sign-requires-3
+sign-requires-3 c κs = search needs
 
-sub-overflow : tie.Need-sub-overflow
-sub-overflow c =
-    let s = c .before .before in
-    rw (read-wide (s .fits .a) (c .before .signed .ensures), read-wide (s .fits .b) (c .signed2 .ensures))
-    (difference-fits (s .fits .a) (s .fits .b))
-
-overflow-requires : tie.Need-overflow-requires
-overflow-requires c κs = search needs
+sign-requires-4 : tie.Need-sign-requires-4
+sign-requires-4 c κs = search needs
 
 returns : tie.Need-returns
 returns c =
-    let s = c .before .before .before in
+    let sign2′ = c .before .before in
+    let sign′ = sign2′ .before in
+    let difference′ = sign′ .before in
+    let fits′ = difference′ .before .fits in
     rw (
-      toZ-ofZ {w = w64} (sub-overflow (c .before)),
-      read-wide (s .fits .a) (c .before .before .signed .ensures),
-      read-wide (s .fits .b) (c .before .signed2 .ensures),
+      sign2′ .sign2 .ensures,
+      c .before .sign3 .ensures,
+      c .sign4 .ensures,
+      sign′ .sign .ensures,
+      difference′ .difference .ensures,
     )
-    at (c .overflow .ensures)
+    (difference-tells (fits′ .a) (fits′ .b))
 
 pub difference-overflow-spec : {M : Type 1} → statement M
 difference-overflow-spec =
     tie.close
     (tie.spec
-    signed-requires
-    cast-x
-    signed-requires-2
-    cast-y
-    sub-overflow
-    overflow-requires
+    difference-requires
+    sign-requires
+    sign-requires-2
+    sign-requires-3
+    sign-requires-4
     returns)

@@ -1,51 +1,28 @@
--- The exact sum of two signed words fits 64 bits, so it is read back as it is.
+-- The callees give the three signs, and these tell of overflow (`sum-tells`).
 use borrow.Author.Needs.{needs}
-use mir.Syntax.{w64}
-use mir.Facts.{toZ-ofZ}
-use Rattle.word.proofs.Readings.{read-wide, cast-wide}
-use Rattle.word.proofs.Exact.{sum-fits}
+use Rattle.word.proofs.Overflow.{sum-tells}
 use Rattle.word.proofs.sums.sum_overflow.Statement.{statement}
 use Rattle.word.proofs.sums.sum_overflow.Tie as tie
 
-signed-requires : tie.Need-signed-requires
-signed-requires c κs = search needs
+sum-requires : tie.Need-sum-requires
+sum-requires c κs = search needs
 
-cast-x : tie.Need-cast-x
-cast-x c = cast-wide (c .before .fits .a) (c .signed .ensures)
+sign-requires : tie.Need-sign-requires
+sign-requires c κs = search needs
 
-signed-requires-2 : tie.Need-signed-requires-2
-signed-requires-2 c κs = search needs
+sign-requires-2 : tie.Need-sign-requires-2
+sign-requires-2 c κs = search needs
 
-cast-y : tie.Need-cast-y
-cast-y c = cast-wide (c .before .before .fits .b) (c .signed2 .ensures)
-
-add-overflow : tie.Need-add-overflow
-add-overflow c =
-    let s = c .before .before in
-    rw (read-wide (s .fits .a) (c .before .signed .ensures), read-wide (s .fits .b) (c .signed2 .ensures))
-    (sum-fits (s .fits .a) (s .fits .b))
-
-overflow-requires : tie.Need-overflow-requires
-overflow-requires c κs = search needs
+sign-requires-3 : tie.Need-sign-requires-3
+sign-requires-3 c κs = search needs
 
 returns : tie.Need-returns
 returns c =
-    let s = c .before .before .before in
-    rw (
-      toZ-ofZ {w = w64} (add-overflow (c .before)),
-      read-wide (s .fits .a) (c .before .before .signed .ensures),
-      read-wide (s .fits .b) (c .before .signed2 .ensures),
-    )
-    at (c .overflow .ensures)
+    let sign′ = c .before .before in
+    let sum′ = sign′ .before in
+    let fits′ = sum′ .before .fits in
+    rw (c .before .sign2 .ensures, c .sign3 .ensures, sign′ .sign .ensures, sum′ .sum .ensures) (sum-tells (fits′ .a) (fits′ .b))
 
 pub sum-overflow-spec : {M : Type 1} → statement M
 sum-overflow-spec =
-    tie.close
-    (tie.spec
-    signed-requires
-    cast-x
-    signed-requires-2
-    cast-y
-    add-overflow
-    overflow-requires
-    returns)
+    tie.close (tie.spec sum-requires sign-requires sign-requires-2 sign-requires-3 returns)
