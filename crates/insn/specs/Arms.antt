@@ -3,12 +3,12 @@
 use mathlib.Core.Path.{_≡_, refl}
 use mathlib.Core.Bool.{Bool, true, false, cond, _&&_}
 use mathlib.Core.List.{List, [], _∷_}
-use Prim.Native.Nat.{ℕ, zero, suc, _+_, _*_, _/_, _%_, _^_, _≤_, _<_}
+use Prim.Native.Nat.{ℕ, zero, suc, _+_, _-_, _*_, _/_, _%_, _^_, _≤_, _<_}
 use native.Mathlib.Nat.{zero-add}
 use native.Mathlib.Omega.{arith}
 use borrow.Author.Tests.{le-leb, lt-leb, eq-eqb, ne-eqb}
 use lib.Dec.{eqb}
-use Rattle.insn.specs.Coding.{regOp, regCode, imm5Op, imm5Code, imm5, imm16Op, imm16Code, imm16, disp7, disp9, disp22, when, decodeExtended, decodeFields}
+use Rattle.insn.specs.Coding.{regOp, regCode, imm5Op, imm5Code, imm5, imm16Op, imm16Code, imm16, disp7, disp9, when, decodeExtended, decodeFields}
 use Rattle.insn.specs.Within.{within}
 use Rattle.insn.specs.declared.RegOp.{RegOp}
 use Rattle.insn.specs.declared.RegOp.the-variants.{Mov, Not, Divh, Satsubr, Satsub, Satadd, Mulh, Or, Xor, And, Tst, Subr, Sub, Add, Cmp}
@@ -18,7 +18,7 @@ use Rattle.insn.specs.declared.Imm16Op.{Imm16Op}
 use Rattle.insn.specs.declared.Imm16Op.the-variants.{Addi, Movea, Movhi, Satsubi, Ori, Xori, Andi, Mulhi}
 use Rattle.insn.specs.declared.Size.the-variants.{Byte, Half, Word}
 use Rattle.insn.specs.declared.Insn.{Insn}
-use Rattle.insn.specs.declared.Insn.the-variants.{Reg, Imm5, Sld, Sst, Bcond, Imm16, Jarl, Di}
+use Rattle.insn.specs.declared.Insn.the-variants.{Reg, Imm5, Sld, Sst, Bcond, Imm16, Di}
 use Rattle.insn.specs.declared.Decoded.{Decoded}
 use Rattle.insn.specs.declared.Decoded.the-variants.{Valid, Illegal, Undefined}
 
@@ -55,7 +55,10 @@ module _ (reg2 reg1 w : ℕ) where
   at-imm5 Shl5 k e = rw (k, e)
   at-imm5 Mulh5 k e = rw (k, e)
 
-  pub at-imm16 : (op : Imm16Op) {opcode n : ℕ} → opcode ≡ imm16Code op → n ≡ imm16 op w → Valid (Imm16 op n reg1 reg2) ≡ At opcode
+  -- by the low four bits of the opcode, as the forms with a second halfword are told apart
+  pub at-imm16 :
+      (op : Imm16Op) {low n : ℕ} → low ≡ imm16Code op - 0b110000 → n ≡ imm16 op w →
+      Valid (Imm16 op n reg1 reg2) ≡ At (0b110000 + low)
   unfolding decodeFields imm16Op imm16Code
   at-imm16 Addi k e = rw (k, e)
   at-imm16 Movea k e = rw (k, e)
@@ -109,12 +112,6 @@ module _ (reg2 reg1 w : ℕ) where
   pub at-bcond : {opcode n : ℕ} → 44 ≤ opcode → opcode < 48 → n ≡ disp9 reg2 opcode reg1 → Valid (Bcond (reg1 % 16) n) ≡ At opcode
   unfolding decodeFields
   at-bcond a b e = rw e (four (λ k. Valid (Bcond (reg1 % 16) (disp9 reg2 k reg1))) 44 refl refl refl refl a b)
-
-  pub at-jarl :
-      {opcode n : ℕ} → 60 ≤ opcode → opcode < 62 → n ≡ disp22 opcode reg1 w → when (eqb (w % 2) 0) (Jarl n reg2) ≡ At opcode
-  unfolding decodeFields
-  at-jarl a b e =
-      rw e (within Unit (λ k. when (eqb (w % 2) 0) (Jarl (disp22 k reg1 w) reg2) ≡ At k) 60 2 ((tt, refl), refl) a b)
 
 -- opcode 111111. w is none of the numbers, the last one first, in the form that a match leaves
 abbrev pub None : List ℕ → ℕ → Type 0

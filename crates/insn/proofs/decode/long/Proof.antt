@@ -1,12 +1,12 @@
--- From 110000: each arm is one of the laws in `Arms`, or computes; no opcode is left for the last one.
-use mathlib.Core.Path.{_∙_, refl}
-use Prim.Native.Nat.{_%_}
+-- From 110000, by the low four bits of the opcode: each arm is the law in `Arms`, or computes; none is left for the last one.
+use mathlib.Core.Path.{_∙_}
+use Prim.Native.Nat.{zero-le}
 use native.Mathlib.Omega.{arith}
 use borrow.Author.Tests.{eq-eqb, ne-eqb}
 use borrow.Author.Needs.{needs}
 use Rattle.insn.specs.Coding.{imm16Code, decodeFields}
 use Rattle.insn.specs.Within.{past}
-use Rattle.insn.specs.Arms.{at-imm16, at-jarl}
+use Rattle.insn.specs.Arms.{at-imm16}
 use Rattle.insn.specs.declared.Imm16Op.the-variants.{Addi, Movea, Movhi, Satsubi, Ori, Xori, Andi, Mulhi}
 use Rattle.insn.proofs.decode.long.Statement.{statement}
 use Rattle.insn.proofs.decode.long.Tie as tie
@@ -101,6 +101,12 @@ sign16-requires-10 c κs = search needs
 st-requires-3 : tie.Need-st-requires-3
 st-requires-3 c κs = search needs
 
+jarl-requires : tie.Need-jarl-requires
+jarl-requires c κs = search needs
+
+jarl-requires-2 : tie.Need-jarl-requires-2
+jarl-requires-2 c κs = search needs
+
 bit-op-requires : tie.Need-bit-op-requires
 bit-op-requires c κs = search needs
 
@@ -109,9 +115,6 @@ sign16-requires-11 c κs = search needs
 
 extended-requires : tie.Need-extended-requires
 extended-requires c κs = search needs
-
-disp22-requires : tie.Need-disp22-requires
-disp22-requires c κs = search needs
 
 returns : tie.Need-returns
 unfolding imm16Code
@@ -151,11 +154,17 @@ returns-9 c = rw (c .before .before .match .keys9) (c .ld .ensures ∙ rw (c .be
 
 returns-10 : tie.Need-returns-10
 unfolding decodeFields
-returns-10 c = rw (c .before .before .before .match .keys10, eq-eqb _ _ (c .before .before .if1 .taken)) (c .ld2 .ensures ∙ rw (c .before .sign166 .ensures))
+returns-10 c =
+    let match′ = c .before .before .before .match in
+    let if1′ = c .before .before .if1 in
+    rw (match′ .keys10, eq-eqb _ _ (if1′ .taken)) (c .ld2 .ensures ∙ rw (c .before .sign166 .ensures))
 
 returns-11 : tie.Need-returns-11
 unfolding decodeFields
-returns-11 c = rw (c .before .before .before .match .keys10, ne-eqb _ _ (c .before .before .if1 .left)) (c .ld3 .ensures ∙ rw (c .before .sign167 .ensures))
+returns-11 c =
+    let match′ = c .before .before .before .match in
+    let if1′ = c .before .before .if1 in
+    rw (match′ .keys10, ne-eqb _ _ (if1′ .left)) (c .ld3 .ensures ∙ rw (c .before .sign167 .ensures))
 
 returns-12 : tie.Need-returns-12
 unfolding decodeFields
@@ -163,31 +172,36 @@ returns-12 c = rw (c .before .before .match .keys11) (c .st .ensures ∙ rw (c .
 
 returns-13 : tie.Need-returns-13
 unfolding decodeFields
-returns-13 c = rw (c .before .before .before .match .keys12, eq-eqb _ _ (c .before .before .if2 .taken)) (c .st2 .ensures ∙ rw (c .before .sign169 .ensures))
+returns-13 c =
+    let match′ = c .before .before .before .match in
+    let if2′ = c .before .before .if2 in
+    rw (match′ .keys12, eq-eqb _ _ (if2′ .taken)) (c .st2 .ensures ∙ rw (c .before .sign169 .ensures))
 
 returns-14 : tie.Need-returns-14
 unfolding decodeFields
-returns-14 c = rw (c .before .before .before .match .keys12, ne-eqb _ _ (c .before .before .if2 .left)) (c .st3 .ensures ∙ rw (c .before .sign1610 .ensures))
+returns-14 c =
+    let match′ = c .before .before .before .match in
+    let if2′ = c .before .before .if2 in
+    rw (match′ .keys12, ne-eqb _ _ (if2′ .left)) (c .st3 .ensures ∙ rw (c .before .sign1610 .ensures))
 
 returns-15 : tie.Need-returns-15
 unfolding decodeFields
-returns-15 c = rw (c .before .before .match .keys13, c .before .bit-op .ensures, c .sign1611 .ensures)
+returns-15 c = c .jarl .ensures ∙ rw (c .before .match .keys13)
 
 returns-16 : tie.Need-returns-16
 unfolding decodeFields
-returns-16 c = rw (c .before .match .keys14) (c .extended .ensures)
+returns-16 c = c .jarl2 .ensures ∙ rw (c .before .match .keys14)
 
 returns-17 : tie.Need-returns-17
-returns-17 c = rw (eq-eqb (c .before .before .before .before .before .args .w % 2) 0 (c .before .if5 .taken)) at (at-jarl (c .before .before .before .before .before .args .reg2) (c .before .before .before .before .before .args .reg1) (c .before .before .before .before .before .args .w) (past _ 48 12 (c .before .before .before .before .match .rest .0 .0) (c .before .before .before .if3 .left)) (c .before .before .if4 .taken) (c .disp22 .ensures))
+unfolding decodeFields
+returns-17 c = rw (c .before .before .match .keys15, c .before .bit-op .ensures, c .sign1611 .ensures)
 
 returns-18 : tie.Need-returns-18
-returns-18 c = rw (ne-eqb (c .before .before .before .before .args .w % 2) 0 (c .if5 .left)) at (at-jarl (c .before .before .before .before .args .reg2) (c .before .before .before .before .args .reg1) (c .before .before .before .before .args .w) (past _ 48 12 (c .before .before .before .match .rest .0 .0) (c .before .before .if3 .left)) (c .before .if4 .taken) refl)
+unfolding decodeFields
+returns-18 c = rw (c .before .match .keys16) (c .extended .ensures)
 
 returns-19 : tie.Need-returns-19
-returns-19 c = absurd (omega (arith, c .before .before .pre .1, c .if3 .taken))
-
-returns-20 : tie.Need-returns-20
-returns-20 c = absurd (omega (arith, past _ 62 2 (c .before .before .match .rest) (c .if4 .left), c .before .before .before .pre .2))
+returns-19 c = absurd (omega (arith, past _ 0 16 (c .match .rest) zero-le, c .before .pre .1))
 
 pub long-spec : {M : Type 1} → statement M
 long-spec =
@@ -223,10 +237,11 @@ long-spec =
     sub-sign16-2
     sign16-requires-10
     st-requires-3
+    jarl-requires
+    jarl-requires-2
     bit-op-requires
     sign16-requires-11
     extended-requires
-    disp22-requires
     returns
     returns-2
     returns-3
@@ -245,5 +260,4 @@ long-spec =
     returns-16
     returns-17
     returns-18
-    returns-19
-    returns-20)
+    returns-19)
