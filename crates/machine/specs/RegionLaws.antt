@@ -90,7 +90,7 @@ four P a b c d (suc (suc (suc zero))) l = d
 four P a b c d (suc (suc (suc (suc k)))) l = absurd (omega arith)
 
 -- separate regions do not cover one address
-disjoint : (map : List ℕ) (right other a j k : ℕ) → separate map j k ≡ true → Covers map right a j → Covers map other a k → ⊥
+pub disjoint : (map : List ℕ) (right other a j k : ℕ) → separate map j k ≡ true → Covers map right a j → Covers map other a k → ⊥
 unfolding separate
 disjoint map right other a j k h c d =
     let h1 = or-rest _ _ h (ne-eqb (size map j) 0 (λ e. omega (arith, c .below))) in
@@ -136,7 +136,7 @@ module _ (map : List ℕ) (n : ℕ) (good : goodMap map n ≡ true) where
   pub found-fits : (s : Size) (right a p : ℕ) {x : ℕ} {r : Spot} → x ≡ aligned s a → r ≡ find map right x → r ≡ At p → p + width s ≤ n
   found-fits s right a p e f g = found-inside s right a p (ap (λ (y : ℕ). find map right y) (sym e) ∙ sym f ∙ g)
 
-  separate-at : (j : ℕ) → j < 4 → (k : ℕ) → k < 4 → j < k → separate map j k ≡ true
+  pub separate-at : (j : ℕ) → j < 4 → (k : ℕ) → k < 4 → j < k → separate map j k ≡ true
   separate-at =
       four (λ j. (k : ℕ) → k < 4 → j < k → separate map j k ≡ true)
       (four (λ k. 0 < k → separate map 0 k ≡ true) (λ l. absurd (omega arith)) (λ l. parts .4) (λ l. parts .5) (λ l. parts .6))

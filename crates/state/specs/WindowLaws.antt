@@ -6,13 +6,13 @@ use Prim.Native.Nat.{ℕ, zero, suc, _+_, _-_, _*_, _/_, _%_, _^_, _≤_, _<_}
 use native.Mathlib.Omega.{arith}
 use lib.Dec.{eqb, ltb, leb}
 use lib.ListN.{getD}
-use borrow.Author.Tests.{eqb-true, eq-eqb, leb-true, le-leb, lt-ltb, le-ltb}
+use borrow.Author.Tests.{eqb-true, eq-eqb, leb-true, le-leb, lt-ltb, le-ltb, ltb-true, ltb-false}
 use Rattle.word.specs.Sums.{difference}
-use Rattle.machine.specs.Regions.{base, size, offset, rights, covers, goodRegion, unused, bounded, goodMap}
-use Rattle.machine.specs.RegionLaws.{four, and-true, used, good-at}
-use Rattle.state.specs.Windows.{seen, Sizes, Within}
+use Rattle.machine.specs.Regions.{base, size, rights, covers, goodRegion, unused, goodMap}
+use Rattle.machine.specs.RegionLaws.{four, and-true, used, good-at, covered, disjoint, separate-at}
+use Rattle.state.specs.Windows.{seen, Sizes, Laid}
 
-module _ (map : List ℕ) (n a k : ℕ) (within : base map k + size map k ≤ 2 ^ 32) (word : a < 2 ^ 32) where
+module _ (map : List ℕ) (n a k : ℕ) (within : base map k + size map k ≤ 2 ^ 24) (word : a < 2 ^ 32) where
   -- where the comparison holds, the region covers a, and the distance is exact
   pub inside : difference a (base map k) < seen map n k → (covers map (2 ^ n) a k ≡ true) × (difference a (base map k) ≡ a - base map k)
   unfolding covers
@@ -46,13 +46,26 @@ unfolding goodRegion
 unused-base map n k h e =
     let g : unused map k ≡ true = rw (eq-eqb (size map k) 0 e) at h in eqb-true (base map k) 0 (and-true _ _ g .0)
 
--- a good map's regions stay below the end of the addresses
-pub good-within : (map : List ℕ) (n : ℕ) → goodMap map n ≡ true → Within map
-good-within map n g k l = go (size map k) refl
+-- a good map's regions stay below the end of the addresses, and do not overlap
+pub good-laid : (map : List ℕ) (n : ℕ) → goodMap map n ≡ true → Laid map
+good-laid map n g = record { below = below; apart = apart }
   where
-    go : (s : ℕ) → size map k ≡ s → base map k + size map k ≤ 2 ^ 32
-    go zero e = omega (arith, unused-base map n k (good-at map n g k l) e)
-    go (suc s) e = omega (arith, used map n k (good-at map n g k l) (omega arith) .addresses)
+    below : (k : ℕ) → k < 4 → base map k + size map k ≤ 2 ^ 24
+    below k l = go (size map k) refl
+      where
+        go : (s : ℕ) → size map k ≡ s → base map k + size map k ≤ 2 ^ 24
+        go zero e = omega (arith, unused-base map n k (good-at map n g k l) e)
+        go (suc s) e = omega (arith, used map n k (good-at map n g k l) (omega arith) .addresses)
+
+    apart : (right a j k : ℕ) → j < 4 → k < 4 → covers map right a j ≡ true → covers map right a k ≡ true → j ≡ k
+    apart right a j k h l c d = go (ltb j k) refl (ltb k j) refl
+      where
+        go : (t : Bool) → ltb j k ≡ t → (u : Bool) → ltb k j ≡ u → j ≡ k
+        go true t u v =
+            absurd (disjoint map right right a j k (separate-at map n g j h k l (ltb-true j k t)) (covered map right a j c) (covered map right a k d))
+        go false t true v =
+            absurd (disjoint map right right a k j (separate-at map n g k l j h (ltb-true k j v)) (covered map right a k d) (covered map right a j c))
+        go false t false v = omega (arith, ltb-false j k t, ltb-false k j v)
 
 -- the twelve sizes, one by one
 pub twelve : (map w : List ℕ)

@@ -1,12 +1,15 @@
 -- The sizes of the four regions as each right sees them, for the right of bit 0, 1 and 2: with them the code finds an address by one
 -- comparison for each region.
 use mathlib.Core.Path.{_≡_}
-use mathlib.Core.Bool.{cond}
+use mathlib.Core.Bool.{true, cond}
 use mathlib.Core.List.{List}
 use Prim.Native.Nat.{ℕ, _+_, _*_, _/_, _%_, _^_, _≤_, _<_}
 use lib.Dec.{eqb}
 use lib.ListN.{getD}
-use Rattle.machine.specs.Regions.{base, size, rights}
+use Rattle.machine.specs.declared.Spot.{Spot}
+use Rattle.machine.specs.declared.Spot.the-variants.{At, Nowhere}
+use Rattle.machine.specs.Regions.{base, size, rights, covers, find}
+use Rattle.state.specs.declared.Place.{Place}
 
 -- the size of region k to the right of bit n: a region that lacks the right is as good as none
 abbrev pub seen : List ℕ → ℕ → ℕ → ℕ
@@ -15,6 +18,17 @@ seen map n k = cond (eqb (rights map k / 2 ^ n % 2) 1) (size map k) 0
 pub record Sizes (map sizes : List ℕ) : Type 0 where
   pub each : (n k : ℕ) → n < 3 → k < 4 → getD sizes (4 * n + k) 0 ≡ seen map n k
 
--- no region passes the end of the words
-abbrev pub Within : List ℕ → Type 0
-Within map = (k : ℕ) → k < 4 → base map k + size map k ≤ 2 ^ 32
+-- a map with which the code finds addresses: no region passes the end of the addresses, and no two cover the same one
+pub record Laid (map : List ℕ) : Type 0 where
+  pub below : (k : ℕ) → k < 4 → base map k + size map k ≤ 2 ^ 24
+  pub apart : (right a j k : ℕ) → j < 4 → k < 4 → covers map right a j ≡ true → covers map right a k ≡ true → j ≡ k
+
+-- what was found
+abbrev pub spotOf : Place → Spot
+spotOf p = cond (p .found) (At (p .at)) Nowhere
+
+-- the bytes from a on lie in memory one behind the other, as many as are left
+pub record Onward (map : List ℕ) (right a : ℕ) (p : Place) : Type 0 where
+  pub each : (i : ℕ) → i < p .left → find map right (a + i) ≡ At (p .at + i)
+  pub below : 0 < p .left → a + p .left ≤ 2 ^ 24
+  pub small : p .at < 2 ^ 33

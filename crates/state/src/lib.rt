@@ -12,3 +12,10 @@ pub struct Tested {
     pub z: bool,
     pub mark: bool,
 }
+
+// Where an address lies in memory, if a region covers it, and how many bytes that region has from there on.
+pub struct Place {
+    pub found: bool,
+    pub at: usize,
+    pub left: u32,
+}

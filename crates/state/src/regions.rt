@@ -1,10 +1,16 @@
 // The map: base, length, offset and rights of each of four regions.
 ghost use mathlib.Core.Path.{_≡_};
 ghost use Prim.Native.Nat.{_+_, _*_, _^_, _<_};
+ghost use mathlib.Core.Bool.{true};
+ghost use lib.Dec.{ltb};
 ghost use lib.ListN.{getD};
-ghost use Rattle.machine.specs.Regions.{base, size, offset, rights, find};
-ghost use Rattle.state.specs.Windows.{seen, Sizes, Within};
+ghost use Rattle.word.specs.Extend.{sum24};
+ghost use Rattle.word.specs.Sums.{difference};
+ghost use Rattle.machine.specs.Regions.{FETCH, base, size, offset, rights, find};
+ghost use Rattle.state.specs.Windows.{seen, Sizes, Laid, spotOf, Onward};
+use crate::Place;
 use machine::Spot;
+use word::extend;
 use word::sums;
 
 // Rights by the place of their bit.
@@ -83,19 +89,71 @@ fn size_to(sizes: &[u32; 12], right: u32, k: usize) -> u32
     sizes[4 * (right as usize) + k]
 }
 
-// Where the address a lies in memory: the regions are tried in order. An address below a region's base wraps to a distance from it
-// that is beyond its end.
+// Region k covers the address for this right: one comparison, as a distance below its base wraps.
+fn inside(map: &[u32; 16], sizes: &[u32; 12], right: u32, k: usize, a: u32) -> bool
+    requires { ⌜ (right < 3) × (k < 4) ⌝ }
+    ensures { λ r. ⌜ r ≡ ltb (difference a (base (now (map .entry)) k)) (getD (now (sizes .entry)) (4 * right + k) 0) ⌝ }
+{
+    sums::difference(a, base(map, k)) < size_to(sizes, right, k)
+}
+
+// Where the address lies in region k, which covers it.
+fn place(map: &[u32; 16], sizes: &[u32; 12], right: u32, k: usize, a: u32) -> Place
+    requires { ⌜ (right < 3) × (k < 4) × (difference a (base (now map) k) < getD (now sizes) (4 * right + k) 0) ⌝ }
+    ensures { λ r. ⌜ (r .found ≡ true) × (r .at ≡ offset (now (map .entry)) k + difference a (base (now (map .entry)) k)) × (r .left + difference a (base (now (map .entry)) k) ≡ getD (now (sizes .entry)) (4 * right + k) 0) × (r .at < 2 ^ 33) ⌝ }
+{
+    let d = sums::difference(a, base(map, k));
+    Place {
+        found: true,
+        at: offset(map, k) as usize + d as usize,
+        left: size_to(sizes, right, k) - d,
+    }
+}
+
+// The regions are tried in order. They are written out, as the compiler would hold a loop's counter and table in registers that the
+// steps need.
+pub fn locate(map: &[u32; 16], sizes: &[u32; 12], right: u32, a: u32) -> Place
+    requires { ⌜ (right < 3) × Sizes (now map) (now sizes) × Laid (now map) ⌝ }
+    ensures { λ r. ⌜ (spotOf r ≡ find (now (map .entry)) (2 ^ right) a) × Onward (now (map .entry)) (2 ^ right) a r ⌝ }
+{
+    if inside(map, sizes, right, 0, a) {
+        return place(map, sizes, right, 0, a);
+    }
+    if inside(map, sizes, right, 1, a) {
+        return place(map, sizes, right, 1, a);
+    }
+    if inside(map, sizes, right, 2, a) {
+        return place(map, sizes, right, 2, a);
+    }
+    if inside(map, sizes, right, 3, a) {
+        return place(map, sizes, right, 3, a);
+    }
+    Place {
+        found: false,
+        at: 0,
+        left: 0,
+    }
+}
+
 pub fn find(map: &[u32; 16], sizes: &[u32; 12], right: u32, a: u32) -> Spot
-    requires { ⌜ (right < 3) × Sizes (now map) (now sizes) × Within (now map) ⌝ }
+    requires { ⌜ (right < 3) × Sizes (now map) (now sizes) × Laid (now map) ⌝ }
     ensures { λ r. ⌜ r ≡ find (now (map .entry)) (2 ^ right) a ⌝ }
 {
-    let mut k: usize = 0;
-    while k < 4 {
-        let d = sums::difference(a, base(map, k));
-        if d < size_to(sizes, right, k) {
-            return Spot::At(offset(map, k) as usize + d as usize);
-        }
-        k += 1;
+    let p = locate(map, sizes, right, a);
+    if p.found {
+        Spot::At(p.at)
+    } else {
+        Spot::Nowhere
     }
-    Spot::Nowhere
+}
+
+// Where the second halfword of an instruction at a lies, whose first one lies at p: mostly behind it in the same region.
+pub fn second(map: &[u32; 16], sizes: &[u32; 12], p: Place, a: u32) -> Spot
+    requires { ⌜ Sizes (now map) (now sizes) × Laid (now map) × Onward (now map) FETCH a p ⌝ }
+    ensures { λ r. ⌜ r ≡ find (now (map .entry)) FETCH (sum24 a 2) ⌝ }
+{
+    if 2 < p.left {
+        return Spot::At(p.at + 2);
+    }
+    find(map, sizes, FETCH, extend::sum24(a, 2))
 }
