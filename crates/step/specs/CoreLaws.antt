@@ -1,20 +1,20 @@
 -- What is never marked, in two numbers: packed and taken out it is the same, and what a step makes of it fits again.
 use mathlib.Core.Path.{_≡_, refl, sym, ap, _∙_}
-use mathlib.Core.Bool.{Bool, true, false, not, _&&_, true≢false}
+use mathlib.Core.Bool.{true, _&&_}
 use Prim.Native.Nat.{ℕ, _+_, _*_, _/_, _%_, _^_, _<_}
 use native.Mathlib.Omega.{arith}
 use lib.Dec.{eqb}
-use borrow.Author.Tests.{eqb-true, eq-eqb, ne-eqb}
 use Rattle.machine.specs.declared.Open.{Open}
+use Rattle.machine.specs.declared.Tv.{Tv}
 use Rattle.machine.specs.Marked.{Cells}
-use Rattle.machine.specs.Psw.{EIPC, EIPSW, FEPC, FEPSW, reg}
-use Rattle.machine.specs.Step.{Outcome, after, next, goto, modes, cause, waits, ldsr, exception, trap, illegal, return, reti, takeNmi, takeCode}
+use Rattle.machine.specs.Psw.{EIPC, EIPSW, FEPC, FEPSW}
+use Rattle.machine.specs.Step.{Outcome, after, next, goto, plus, modes, cause, waits, reveal, exception, trap, illegal, return, reti, takeNmi, takeCode}
 use Rattle.machine.specs.WellFormed.{WellFormed}
 use Rattle.machine.specs.InvariantLaws.{code-target, Ends, next-ends, reveal-ends, cond-ends}
 use Rattle.step.specs.declared.Out.{Out}
 use Rattle.step.specs.declared.Wide.{Wide}
 use Rattle.step.specs.declared.System.{System}
-use Rattle.step.specs.declared.System.the-variants.{Ldsr, Stsr, Trap, Halt, Reti, Di, Ei}
+use Rattle.step.specs.declared.System.the-variants.{Trap, Halt, Reti, Di, Ei}
 use Rattle.step.specs.declared.Packed.{Packed}
 use Rattle.step.specs.Tasks.{openOf, Fits, goesOn, wentOf, wentWide, doSystem}
 
@@ -24,24 +24,6 @@ packed p r = record { pc = p; rest = r }
 -- PC alone
 pub goto-packed : (p q r : ℕ) → p < 2 ^ 32 → openOf (packed p r) ≡ goto p (openOf (packed q r))
 goto-packed p q r h = let e : p % 2 ^ 32 ≡ p = omega arith in rw e
-
--- one test for all that may wait: the low 18 bits by parts
-low-parts : (r : ℕ) → r % 2 ^ 18 ≡ r % 2 ^ 16 + 2 ^ 16 * (r / 2 ^ 16 % 2) + 2 ^ 17 * (r / 2 ^ 17 % 2)
-low-parts r =
-    let q : r / 2 ^ 17 ≡ r / 2 ^ 16 / 2 = omega arith in
-    let s : r / 2 ^ 18 ≡ r / 2 ^ 17 / 2 = omega arith in
-    omega arith
-
-pub any-waits : (r : ℕ) → not (eqb (r % 2 ^ 18) 0) ≡ not (eqb (r % 2 ^ 16 + r / 2 ^ 16 % 2 + r / 2 ^ 17 % 2) 0)
-any-waits r = go (eqb (r % 2 ^ 18) 0) refl
-  where
-    go : (b : Bool) → eqb (r % 2 ^ 18) 0 ≡ b → not b ≡ not (eqb (r % 2 ^ 16 + r / 2 ^ 16 % 2 + r / 2 ^ 17 % 2) 0)
-    go true e =
-        let z = eqb-true (r % 2 ^ 18) 0 e in
-        rw (eq-eqb (r % 2 ^ 16 + r / 2 ^ 16 % 2 + r / 2 ^ 17 % 2) 0 (omega (arith, low-parts r)))
-    go false e =
-        rw (ne-eqb (r % 2 ^ 16 + r / 2 ^ 16 % 2 + r / 2 ^ 17 % 2) 0 (λ q.
-        let z : r % 2 ^ 18 ≡ 0 = omega (arith, low-parts r) in absurd (true≢false (rw (eq-eqb (r % 2 ^ 18) 0 z) at e))))
 
 -- taken out, it fits
 pub taken : (c : Packed) (o : Open) → o .pc ≡ openOf c .pc → o .np ≡ openOf c .np → o .ep ≡ openOf c .ep → o .id ≡ openOf c .id → o .ecr ≡ openOf c .ecr
@@ -114,17 +96,11 @@ module _ {o : Open} (f : Fits o) {c m : Cells} where
       reveal-ends o _ _ (reveal-ends o _ _
       (on-fits _ (modes-fits f _ _ _ (omega arith) (omega arith) (omega arith))))
 
-  ldsr-fits : (reg2 regid : ℕ) → Fitting c m (ldsr reg2 regid o c m)
-  unfolding ldsr
-  ldsr-fits reg2 regid =
-      cond-ends (eqb regid EIPC) (on-fits _ f) (cond-ends (eqb regid EIPSW) (on-fits _ f)
-      (cond-ends (eqb regid FEPC) (on-fits _ f) (cond-ends (eqb regid FEPSW) (on-fits _ f)
-      (reveal-ends o (reg reg2 c) _ (on-fits _ (modes-fits f _ _ _ (omega arith) (omega arith) (omega arith)))))))
+  pub psw-fits : (v : Tv) (g : ℕ → Cells) → Fitting c m (reveal o c m v (λ w. next (plus 4 (modes (w / 2 ^ 7 % 2) (w / 2 ^ 6 % 2) (w / 2 ^ 5 % 2) o)) (g w) m))
+  psw-fits v g = reveal-ends o v _ (on-fits _ (modes-fits f _ _ _ (omega arith) (omega arith) (omega arith)))
 
   pub system-fits : (s : System) → Fitting c m (doSystem s o c m)
   unfolding doSystem trap reti
-  system-fits (Ldsr reg2 regid) = ldsr-fits reg2 regid
-  system-fits (Stsr regid reg2) = on-fits _ f
   system-fits (Trap vector) = exception-fits _ _
   system-fits Halt = on-fits _ (waits-fits f _ _ 1 (f .code) (f .nmi) (omega arith))
   system-fits Reti = cond-ends (eqb (o .ep) 0 && eqb (o .np) 1) (return-fits FEPC FEPSW) (return-fits EIPC EIPSW)
@@ -150,8 +126,8 @@ pub wide-fits : (w : Wide) {c m d q : Cells} {x : Outcome} → after (wentWide w
 wide-fits w {d = d} {q = q} {x = x} e f t =
     let g : next (w .open) d q ≡ x = rw t at e in f .went (w .open) (ap (λ (y : Outcome). y .went) (sym g))
 
-pub settled : (w : Wide) (r : Out) {c m : Cells} {x : Outcome} → wentOf r ≡ wentWide w → after (wentWide w) c m ≡ x → after (wentOf r) c m ≡ x
-settled w r h e = rw h e
+pub settled : (o : Packed) (w : Wide) (r : Out) {c m : Cells} {x : Outcome} → wentOf o r ≡ wentWide w → after (wentWide w) c m ≡ x → after (wentOf o r) c m ≡ x
+settled o w r h e = rw h e
 
 -- a well-formed state fits
 pub formed-fits : {o : Open} {c : Cells} → WellFormed o c → Fits o

@@ -1,12 +1,14 @@
 -- A halfword fetched, the code's values beside the definition's: an even address is as it is with its low bit cleared.
-use mathlib.Core.Path.{_≡_, refl, sym, ap, _∙_}
-use mathlib.Core.Bool.{true, false}
+use mathlib.Core.Path.{_≡_, refl, sym, ap, _∙_, subst}
+use mathlib.Core.Bool.{Bool, true, false, not, true≢false}
 use mathlib.Core.List.{List}
 use Prim.Native.Nat.{ℕ, _+_, _*_, _/_, _%_, _^_, _≤_, _<_}
 use native.Mathlib.Omega.{arith}
 use lib.ListN.{getD, length}
 use Rattle.word.specs.Extend.{sum24}
 use Rattle.insn.specs.declared.Size.the-variants.{Half}
+use Rattle.insn.specs.declared.Decoded.{Decoded}
+use Rattle.insn.specs.declared.Decoded.the-variants.{Undefined}
 use Rattle.insn.specs.Coding.{long, decode}
 use Rattle.machine.specs.declared.Tv.{Tv}
 use Rattle.machine.specs.declared.Open.{Open}
@@ -20,8 +22,10 @@ use Rattle.machine.specs.Memory.{bytesAt, littleEndian}
 use Rattle.machine.specs.WellFormed.{Bytes}
 use Rattle.machine.specs.InvariantLaws.{half-lt}
 use Rattle.machine.specs.Step.{Outcome, refuse, execute, fetch, instruction}
+use Rattle.state.specs.declared.Place.{Place}
+use Rattle.state.specs.Windows.{spotOf}
 use Rattle.step.specs.declared.Fetched.{Fetched}
-use Rattle.step.specs.Tasks.{Prepared, goesOn, fetched}
+use Rattle.step.specs.Tasks.{Prepared, goesOn, DecodedFields, fetched}
 use Rattle.step.specs.StepLaws.{opened, leaked, placed, nowhere, fits}
 
 cleared : (a b : ℕ) → a % 2 ≡ 0 → b ≡ a → a ≡ b / 2 * 2
@@ -34,6 +38,26 @@ next-even a h = omega arith
 pub half-small : (m k : List ℕ) (p : ℕ) {h : Tv} → ((i : ℕ) → getD m i 0 < 2 ^ 8)
     → h ≡ liftAll littleEndian (bytesAt (both m k) p Half) → h .val < 2 ^ 16
 half-small m k p b e = rw e (half-lt {m = both m k} (record { small = b }) p)
+
+-- a place that was found, or not
+module _ (p : Place) {s : Spot} (e : spotOf p ≡ s) where
+  pub at-place : not (p .found) ≡ false → At (p .at) ≡ s
+  at-place h = rw (not-no (p .found) h) at e
+    where
+      not-no : (b : Bool) → not b ≡ false → b ≡ true
+      not-no true q = refl
+      not-no false q = absurd (true≢false q)
+
+  pub no-place : not (p .found) ≡ true → Nowhere ≡ s
+  no-place h = rw (not-yes (p .found) h) at e
+    where
+      not-yes : (b : Bool) → not b ≡ true → b ≡ false
+      not-yes true q = sym q
+      not-yes false q = refl
+
+-- what is refused decodes to nothing
+pub undecoded : {d : Decoded} → d ≡ Undefined → DecodedFields d
+undecoded e = subst DecodedFields (sym e) tt
 
 -- a fetch that is refused
 pub not-fetched : (f : Fetched) {a : Answer} {p : ℕ} (map : List ℕ) (o : Open) {c m : Cells} {x : Outcome} → f .answer ≡ a → f .place ≡ p → goesOn a ≡ false

@@ -17,8 +17,8 @@ use Rattle.machine.specs.Marked.{Cells}
 use Rattle.machine.specs.Regions.{find}
 use Rattle.machine.specs.Memory.{width, aligned}
 use Rattle.machine.specs.RegionLaws.{found-fits}
-use Rattle.state.specs.Windows.{Sizes, Within}
-use Rattle.state.specs.WindowLaws.{good-within}
+use Rattle.state.specs.Windows.{Sizes, Laid}
+use Rattle.state.specs.WindowLaws.{good-laid}
 use Rattle.machine.specs.Step.{Outcome, after, next, refuse, reveal, place}
 use Rattle.step.specs.Tasks.{Prepared}
 
@@ -45,8 +45,8 @@ on h p q r = rw (h, p, q, r)
 
 module _ {map sizes mem marks : List ℕ} (p : Prepared map sizes mem marks) where
   -- the code can look for an address
-  pub finds : {n : ℕ} → n < 3 → (n < 3) × Sizes map sizes × Within map
-  finds h = (h, p .seen, good-within map (length mem) (p .ready .good))
+  pub finds : {n : ℕ} → n < 3 → (n < 3) × Sizes map sizes × Laid map
+  finds h = (h, p .seen, good-laid map (length mem) (p .ready .good))
 
   -- an operand that is found lies in memory whole, and its marks beside it
   pub fits : (s : Size) (right x : ℕ) {a at : ℕ} {f : Spot}

@@ -1,12 +1,13 @@
 -- The code's way through a step: what the types that only the code uses stand for.
 use mathlib.Core.Path.{_≡_}
-use mathlib.Core.Bool.{Bool, true, false, cond}
+use mathlib.Core.Bool.{Bool, true, false, cond, _||_}
 use mathlib.Core.List.{List}
-use Prim.Native.Nat.{ℕ, _/_, _%_, _^_, _<_}
+use Prim.Native.Nat.{ℕ, _-_, _/_, _%_, _^_, _<_}
+use lib.Dec.{eqb}
 use lib.ListN.{length}
 use Rattle.insn.specs.declared.Decoded.{Decoded}
 use Rattle.insn.specs.declared.Decoded.the-variants as decoded
-use Rattle.insn.specs.Coding.{inRange, decode}
+use Rattle.insn.specs.Coding.{inRange}
 use Rattle.machine.specs.declared.Open.{Open}
 use Rattle.machine.specs.declared.Answer.{Answer}
 use Rattle.machine.specs.declared.Answer.the-variants.{Done, Size, Map, State, Asleep, NoFetch, Undefined, Leak, NoRead, NoWrite}
@@ -16,16 +17,18 @@ use Rattle.step.specs.declared.Packed.{Packed}
 use Rattle.step.specs.declared.Out.{Out}
 use Rattle.step.specs.declared.Wide.{Wide}
 use Rattle.step.specs.declared.Fetched.{Fetched}
+use Rattle.step.specs.declared.Reached.{Reached}
 use Rattle.step.specs.declared.System.{System}
-use Rattle.step.specs.declared.System.the-variants.{Ldsr, Stsr, Trap, Halt, Reti, Di, Ei}
+use Rattle.step.specs.declared.System.the-variants.{Trap, Halt, Reti, Di, Ei}
 use Rattle.step.specs.declared.Task.{Task}
-use Rattle.step.specs.declared.Task.the-variants.{Compute, Load, Store, Bitwise, Jump, Branch, Link, Condition, System as OfSystem}
+use Rattle.step.specs.declared.Task.the-variants.{Compute, Load, Store, Bitwise, Jump, Branch, Link, Condition, Ldsr, Stsr, System as OfSystem}
 use Rattle.machine.specs.Marked.{Cells}
 use Rattle.machine.specs.Psw.{putReg, condition}
 use Rattle.machine.specs.Regions.{goodMap}
 use Rattle.state.specs.Windows.{Sizes}
 use Rattle.machine.specs.Operations.{operate}
-use Rattle.machine.specs.Step.{Outcome, execute, refuse, next, plus, modes, waits, load, store, bitwise, jmp, bcond, jarl, ldsr, system, trap, reti}
+use Rattle.machine.specs.Run.{Ended, ended, run}
+use Rattle.machine.specs.Step.{Outcome, execute, refuse, next, plus, modes, waits, load, store, bitwise, jmp, bcond, jarl, ldsr, system, trap, reti, nmiAccepted, codeAccepted}
 
 abbrev pub goesOn : Answer → Bool
 goesOn Done = true
@@ -62,19 +65,25 @@ pub record Fits (o : Open) : Type 0 where
   pub nmi : o .nmi < 2
   pub halted : o .halted < 2
 
+-- something comes before the next instruction: a request is accepted, or HALT's state goes on
+abbrev pub acts : Open → Bool
+acts o = nmiAccepted o || (codeAccepted o || eqb (o .halted) 1)
+
 -- how a step went
 abbrev pub wentTo : Answer → ℕ → Open → Went
 wentTo a place o = cond (goesOn a) (Next o) (Stop a place)
 
-abbrev pub wentOf : Out → Went
-wentOf w = wentTo (w .answer) (w .place) (openOf (w .core))
+-- the state after a step from o that went on: a calm one changes PC alone
+abbrev pub nextOf : Packed → Out → Packed
+nextOf o w = cond (w .calm) (record { pc = w .core .pc; rest = o .rest }) (w .core)
+
+abbrev pub wentOf : Packed → Out → Went
+wentOf o w = wentTo (w .answer) (w .place) (openOf (nextOf o w))
 
 abbrev pub wentWide : Wide → Went
 wentWide w = wentTo (w .answer) (w .place) (w .open)
 
 unfoldable pub doSystem : System → Open → Cells → Cells → Outcome
-doSystem (Ldsr reg2 regid) o c m = ldsr reg2 regid o c m
-doSystem (Stsr regid reg2) o c m = next (plus 4 o) (putReg reg2 (system regid o c) c) m
 doSystem (Trap vector) o c m = trap vector o c m
 doSystem Halt o c m = next (plus 4 (waits (o .code) (o .nmi) 1 o)) c m
 doSystem Reti o c m = reti o c m
@@ -90,12 +99,12 @@ doTask (Jump base) map o c m = jmp base o c m
 doTask (Branch cc disp) map o c m = bcond cc disp o c m
 doTask (Link disp target) map o c m = jarl disp target o c m
 doTask (Condition cc target) map o c m = next (plus 4 o) (putReg target (condition cc c) c) m
+doTask (Ldsr reg2 regid) map o c m = ldsr reg2 regid o c m
+doTask (Stsr regid reg2) map o c m = next (plus 4 o) (putReg reg2 (system regid o c) c) m
 doTask (OfSystem s) map o c m = doSystem s o c m
 
 -- the operands that a task of an instruction in range has
 abbrev pub SystemFields : System → Type 0
-SystemFields (Ldsr reg2 regid) = reg2 < 32
-SystemFields (Stsr regid reg2) = reg2 < 32
 SystemFields (Trap vector) = vector < 32
 SystemFields Halt = Unit
 SystemFields Reti = Unit
@@ -111,6 +120,8 @@ TaskFields (Jump base) = base < 32
 TaskFields (Branch cc disp) = Unit
 TaskFields (Link disp target) = target < 32
 TaskFields (Condition cc target) = target < 32
+TaskFields (Ldsr reg2 regid) = reg2 < 32
+TaskFields (Stsr regid reg2) = reg2 < 32
 TaskFields (OfSystem s) = SystemFields s
 
 -- a map and memory as the entry's checks let them in
@@ -123,12 +134,17 @@ pub record Prepared (map sizes mem marks : List ℕ) : Type 0 where
   pub ready : Ready map mem marks
   pub seen : Sizes map sizes
 
--- what a fetch found, carried on: a second halfword of a short form is 0, and is not looked at
+-- what a fetch found, carried on
 abbrev pub fetched : Fetched → List ℕ → Open → Cells → Cells → Outcome
-fetched f map o c m = cond (goesOn (f .answer)) (execute (decode (f .first) (f .second)) map o c m) (refuse (f .answer) (f .place) c m)
+fetched f map o c m = cond (goesOn (f .answer)) (execute (f .decoded) map o c m) (refuse (f .answer) (f .place) c m)
 
 -- a decoded instruction is in range
 abbrev pub DecodedFields : Decoded → Type 0
 DecodedFields (decoded.Valid i) = inRange i ≡ true
 DecodedFields decoded.Illegal = Unit
 DecodedFields decoded.Undefined = Unit
+
+-- the end of a run that has come this far
+abbrev pub goesFrom : ℕ → List ℕ → Reached → Cells → Cells → Ended
+goesFrom budget map r c m =
+    cond (goesOn (r .answer)) (run (budget - r .steps) (r .steps) map (openOf (r .core)) c m) (ended (r .answer) (r .place) (r .steps) (openOf (r .core)) c m)

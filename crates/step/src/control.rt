@@ -3,8 +3,8 @@ ghost use mathlib.Core.Path.{_≡_};
 ghost use Prim.Native.Nat.{_<_, _/_, _%_, _^_};
 ghost use Rattle.machine.specs.Marked.{Cells, both};
 ghost use Rattle.machine.specs.Psw.{putReg, condition, sys, bits, putPswFlags};
-ghost use Rattle.machine.specs.Step.{after, reveal, next, plus, modes, savePc, savePsw, jmp, bcond, jarl, ldsr, system, exception, trap, illegal, return, reti, takeNmi, takeCode};
-ghost use Rattle.step.specs.Tasks.{openOf, wentOf, wentWide, doSystem, SystemFields};
+ghost use Rattle.machine.specs.Step.{after, reveal, next, plus, modes, savePc, savePsw, jmp, bcond, jarl, ldsr, system, exception, trap, illegal, return, reti, nmiAccepted, codeAccepted, takeNmi, takeCode};
+ghost use Rattle.step.specs.Tasks.{openOf, wentOf, wentWide};
 use crate::Out;
 use crate::Packed;
 use crate::System;
@@ -35,33 +35,33 @@ fn sys(n: u32) -> u32
 
 pub fn jump(base: u32, o: Packed, cells: &[u32; 38], tags: &[u8; 38]) -> Out
     requires { ⌜ base < 32 ⌝ }
-    ensures { λ r. ⌜ ((m : Cells) → after (wentOf r) (both (now (cells .entry)) (now (tags .entry))) m ≡ jmp base (openOf o) (both (now (cells .entry)) (now (tags .entry))) m) ⌝ }
+    ensures { λ r. ⌜ ((m : Cells) → after (wentOf o r) (both (now (cells .entry)) (now (tags .entry))) m ≡ jmp base (openOf o) (both (now (cells .entry)) (now (tags .entry))) m) ⌝ }
 {
     let b = cells::reg(cells, tags, base);
     if b.mark {
         return core::leak(o);
     }
-    core::next(core::goto(b.val % 16777216 / 2 * 2, o))
+    core::goto(b.val % 16777216 / 2 * 2, o)
 }
 
 // The displacement counts from the instruction's own address.
 pub fn branch(cond: u32, disp: u32, o: Packed, cells: &[u32; 38], tags: &[u8; 38]) -> Out
-    ensures { λ r. ⌜ ((m : Cells) → after (wentOf r) (both (now (cells .entry)) (now (tags .entry))) m ≡ bcond cond disp (openOf o) (both (now (cells .entry)) (now (tags .entry))) m) ⌝ }
+    ensures { λ r. ⌜ ((m : Cells) → after (wentOf o r) (both (now (cells .entry)) (now (tags .entry))) m ≡ bcond cond disp (openOf o) (both (now (cells .entry)) (now (tags .entry))) m) ⌝ }
 {
     let t = psw::condition(cond, cells, tags);
     if t.mark {
         return core::leak(o);
     }
     if t.val == 0 {
-        return core::next(core::plus(2, o));
+        return core::plus(2, o);
     }
-    core::next(core::plus(disp, o))
+    core::plus(disp, o)
 }
 
 // JARL: the link is the next PC.
 pub fn link(disp: u32, target: u32, o: Packed, cells: &mut [u32; 38], tags: &mut [u8; 38]) -> Out
     requires { ⌜ target < 32 ⌝ }
-    ensures { λ r. ⌜ ((m : Cells) → after (wentOf r) (both (now (cells .exit)) (now (tags .exit))) m ≡ jarl disp target (openOf o) (both (now (cells .entry)) (now (tags .entry))) m) ⌝ }
+    ensures { λ r. ⌜ ((m : Cells) → after (wentOf o r) (both (now (cells .exit)) (now (tags .exit))) m ≡ jarl disp target (openOf o) (both (now (cells .entry)) (now (tags .entry))) m) ⌝ }
 {
     cells::put_reg(
         cells,
@@ -72,7 +72,7 @@ pub fn link(disp: u32, target: u32, o: Packed, cells: &mut [u32; 38], tags: &mut
             mark: false,
         },
     );
-    core::next(core::plus(disp, o))
+    core::plus(disp, o)
 }
 
 // SETF.
@@ -84,11 +84,11 @@ pub fn set_condition(
     tags: &mut [u8; 38],
 ) -> Out
     requires { ⌜ target < 32 ⌝ }
-    ensures { λ r. ⌜ ((m : Cells) → after (wentOf r) (both (now (cells .exit)) (now (tags .exit))) m ≡ next (plus 4 (openOf o)) (putReg target (condition cond (both (now (cells .entry)) (now (tags .entry)))) (both (now (cells .entry)) (now (tags .entry)))) m) ⌝ }
+    ensures { λ r. ⌜ ((m : Cells) → after (wentOf o r) (both (now (cells .exit)) (now (tags .exit))) m ≡ next (plus 4 (openOf o)) (putReg target (condition cond (both (now (cells .entry)) (now (tags .entry)))) (both (now (cells .entry)) (now (tags .entry)))) m) ⌝ }
 {
     let t = psw::condition(cond, &*cells, &*tags);
     cells::put_reg(cells, tags, target, t);
-    core::next(core::plus(4, o))
+    core::plus(4, o)
 }
 
 // LDSR to PSW: its bits choose whether requests are accepted, so a marked value is refused.
@@ -103,9 +103,9 @@ fn load_psw(v: Tv, o: Open, cells: &mut [u32; 38], tags: &mut [u8; 38]) -> Wide
     parts::next(parts::plus(4, parts::modes(w / 128 % 2, w / 64 % 2, w / 32 % 2, o)))
 }
 
-pub fn ldsr(reg2: u32, regid: u32, o: Open, cells: &mut [u32; 38], tags: &mut [u8; 38]) -> Wide
+pub fn ldsr(reg2: u32, regid: u32, o: Packed, cells: &mut [u32; 38], tags: &mut [u8; 38]) -> Out
     requires { ⌜ reg2 < 32 ⌝ }
-    ensures { λ r. ⌜ ((m : Cells) → after (wentWide r) (both (now (cells .exit)) (now (tags .exit))) m ≡ ldsr reg2 regid o (both (now (cells .entry)) (now (tags .entry))) m) ⌝ }
+    ensures { λ r. ⌜ ((m : Cells) → after (wentOf o r) (both (now (cells .exit)) (now (tags .exit))) m ≡ ldsr reg2 regid (openOf o) (both (now (cells .entry)) (now (tags .entry))) m) ⌝ }
 {
     let v = cells::reg(&*cells, &*tags, reg2);
     match regid {
@@ -119,11 +119,11 @@ pub fn ldsr(reg2: u32, regid: u32, o: Open, cells: &mut [u32; 38], tags: &mut [u
                     mark: v.mark,
                 },
             );
-            parts::next(parts::plus(4, o))
+            core::plus(4, o)
         }
         1 => {
             psw::put_spread(sys(EIPSW), v, cells, tags);
-            parts::next(parts::plus(4, o))
+            core::plus(4, o)
         }
         2 => {
             cells::put(
@@ -135,13 +135,16 @@ pub fn ldsr(reg2: u32, regid: u32, o: Open, cells: &mut [u32; 38], tags: &mut [u
                     mark: v.mark,
                 },
             );
-            parts::next(parts::plus(4, o))
+            core::plus(4, o)
         }
         3 => {
             psw::put_spread(sys(FEPSW), v, cells, tags);
-            parts::next(parts::plus(4, o))
+            core::plus(4, o)
         }
-        _ => load_psw(v, o, cells, tags),
+        _ => {
+            let w = load_psw(v, core::unpack(o), cells, tags);
+            core::settle(w, o)
+        }
     }
 }
 
@@ -162,13 +165,13 @@ fn system_value(regid: u32, o: Open, cells: &[u32; 38], tags: &[u8; 38]) -> Tv
     }
 }
 
-pub fn stsr(regid: u32, reg2: u32, o: Open, cells: &mut [u32; 38], tags: &mut [u8; 38]) -> Wide
+pub fn stsr(regid: u32, reg2: u32, o: Packed, cells: &mut [u32; 38], tags: &mut [u8; 38]) -> Out
     requires { ⌜ reg2 < 32 ⌝ }
-    ensures { λ r. ⌜ ((m : Cells) → after (wentWide r) (both (now (cells .exit)) (now (tags .exit))) m ≡ next (plus 4 o) (putReg reg2 (system regid o (both (now (cells .entry)) (now (tags .entry)))) (both (now (cells .entry)) (now (tags .entry)))) m) ⌝ }
+    ensures { λ r. ⌜ ((m : Cells) → after (wentOf o r) (both (now (cells .exit)) (now (tags .exit))) m ≡ next (plus 4 (openOf o)) (putReg reg2 (system regid (openOf o) (both (now (cells .entry)) (now (tags .entry)))) (both (now (cells .entry)) (now (tags .entry)))) m) ⌝ }
 {
-    let v = system_value(regid, o, &*cells, &*tags);
+    let v = system_value(regid, core::unpack(o), &*cells, &*tags);
     cells::put_reg(cells, tags, reg2, v);
-    parts::next(parts::plus(4, o))
+    core::plus(4, o)
 }
 
 // A PC and PSW to the saved registers pc and psw.
@@ -242,6 +245,18 @@ pub fn reti(o: Open, cells: &mut [u32; 38], tags: &mut [u8; 38]) -> Wide
         }
     }
     return_to(EIPC, EIPSW, o, cells, tags)
+}
+
+pub fn nmi_accepted(o: Open) -> bool
+    ensures { λ r. ⌜ r ≡ nmiAccepted o ⌝ }
+{
+    (o.nmi == 1) & (o.np == 0)
+}
+
+pub fn code_accepted(o: Open) -> bool
+    ensures { λ r. ⌜ r ≡ codeAccepted o ⌝ }
+{
+    (o.code != 0) & ((o.np == 0) & (o.id == 0))
 }
 
 // An NMI is accepted: it is cleared, and HALT ends.

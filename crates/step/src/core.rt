@@ -1,10 +1,9 @@
 // What is never marked, in two numbers; and how a step ends.
 ghost use mathlib.Core.Path.{_≡_};
-ghost use mathlib.Core.Bool.{true, not};
-ghost use Prim.Native.Nat.{_+_, _<_, _/_, _%_};
-ghost use lib.Dec.{eqb};
+ghost use mathlib.Core.Bool.{true};
+ghost use Prim.Native.Nat.{_<_, _/_, _%_};
 ghost use Rattle.machine.specs.Step.{goto, plus};
-ghost use Rattle.step.specs.Tasks.{openOf, Fits, goesOn, wentOf, wentWide};
+ghost use Rattle.step.specs.Tasks.{openOf, Fits, goesOn, nextOf, wentOf, wentWide};
 use crate::Out;
 use crate::Packed;
 use crate::Wide;
@@ -32,48 +31,51 @@ pub fn pc(c: Packed) -> u32
     (c.pc % 4294967296) as u32
 }
 
-pub fn goto(pc: u32, c: Packed) -> Packed
-    ensures { λ r. ⌜ openOf r ≡ goto pc (openOf c) ⌝ }
-{
-    Packed {
-        pc: pc as u64,
-        rest: c.rest,
-    }
-}
-
-pub fn plus(n: u32, c: Packed) -> Packed
-    ensures { λ r. ⌜ openOf r ≡ plus n (openOf c) ⌝ }
-{
-    goto(extend::sum24(pc(c), n), c)
-}
-
-// The step went on to this state.
-pub fn next(c: Packed) -> Out
-    ensures { λ r. ⌜ wentOf r ≡ Went.Next (openOf c) ⌝ }
+// The step went on, and changed PC alone.
+pub fn goto(pc: u32, c: Packed) -> Out
+    ensures { λ r. ⌜ wentOf c r ≡ Went.Next (goto pc (openOf c)) ⌝ }
 {
     Out {
         answer: Answer::Done,
         place: 0,
-        core: c,
+        calm: true,
+        core: Packed {
+            pc: pc as u64,
+            rest: c.rest,
+        },
     }
+}
+
+pub fn plus(n: u32, c: Packed) -> Out
+    ensures { λ r. ⌜ wentOf c r ≡ Went.Next (plus n (openOf c)) ⌝ }
+{
+    goto(extend::sum24(pc(c), n), c)
 }
 
 // A marked value would have chosen an address, a branch or a return.
 pub fn leak(c: Packed) -> Out
-    ensures { λ r. ⌜ wentOf r ≡ Went.Stop Answer.Leak (openOf c .pc) ⌝ }
+    ensures { λ r. ⌜ wentOf c r ≡ Went.Stop Answer.Leak (openOf c .pc) ⌝ }
 {
     Out {
         answer: Answer::Leak,
         place: pc(c),
+        calm: true,
         core: c,
     }
 }
 
-// Something may have to be done before the next instruction: a code, an NMI, or HALT's state.
-pub fn waits(c: Packed) -> bool
-    ensures { λ r. ⌜ r ≡ not (eqb (openOf c .code + openOf c .nmi + openOf c .halted) 0) ⌝ }
+// The state after a step from c.
+pub fn after(c: Packed, w: Out) -> Packed
+    ensures { λ r. ⌜ r ≡ nextOf c w ⌝ }
 {
-    c.rest % ID != 0
+    if w.calm {
+        Packed {
+            pc: w.core.pc,
+            rest: c.rest,
+        }
+    } else {
+        w.core
+    }
 }
 
 // A bit of `rest`, as a number.
@@ -119,14 +121,20 @@ pub fn pack(o: Open) -> Packed
 // How a step ends that may have changed more than PC; a refused one leaves the state as it was.
 pub fn settle(w: Wide, c: Packed) -> Out
     requires { ⌜ (goesOn (w .answer) ≡ true → Fits (w .open)) ⌝ }
-    ensures { λ r. ⌜ wentOf r ≡ wentWide w ⌝ }
+    ensures { λ r. ⌜ wentOf c r ≡ wentWide w ⌝ }
 {
     let answer = w.answer;
     match answer {
-        Answer::Done => next(pack(w.open)),
+        Answer::Done => Out {
+            answer: Answer::Done,
+            place: 0,
+            calm: false,
+            core: pack(w.open),
+        },
         _ => Out {
             answer: answer,
             place: w.place,
+            calm: true,
             core: c,
         },
     }

@@ -1,11 +1,15 @@
-// One step: requests, fetch, decode, and the instruction's task.
+// One step: what comes before the next instruction; or fetch, decode, and the instruction's task.
 ghost use mathlib.Core.Path.{_≡_};
-ghost use Prim.Native.Nat.{_%_};
+ghost use mathlib.Core.Bool.{true};
+ghost use mathlib.Core.List.{List};
+ghost use Prim.Native.Nat.{ℕ, _%_};
 ghost use Rattle.machine.specs.Marked.{Cells, both};
-ghost use Rattle.insn.specs.Coding.{decode};
-ghost use Rattle.machine.specs.Step.{after, execute, fetch, instruction, takeNmi, takeCode, step};
-ghost use Rattle.machine.specs.WellFormed.{WellFormed};
-ghost use Rattle.step.specs.Tasks.{openOf, wentOf, wentWide, doSystem, doTask, SystemFields, TaskFields, DecodedFields, fetched, Prepared};
+ghost use Rattle.word.specs.Extend.{sum24};
+ghost use Rattle.insn.specs.Coding.{long, decode};
+ghost use Rattle.machine.specs.Regions.{FETCH};
+ghost use Rattle.state.specs.Windows.{Onward};
+ghost use Rattle.machine.specs.Step.{after, execute, fetch, instruction, step};
+ghost use Rattle.step.specs.Tasks.{openOf, wentOf, wentWide, acts, doSystem, doTask, SystemFields, TaskFields, DecodedFields, fetched, Prepared};
 use crate::Fetched;
 use crate::Out;
 use crate::Packed;
@@ -22,6 +26,7 @@ use insn::decode;
 use machine::Answer;
 use machine::Open;
 use machine::Spot;
+use state::Place;
 use state::memory;
 use state::operations;
 use state::regions;
@@ -32,8 +37,6 @@ fn system(s: System, o: Open, cells: &mut [u32; 38], tags: &mut [u8; 38]) -> Wid
     ensures { λ r. ⌜ ((m : Cells) → after (wentWide r) (both (now (cells .exit)) (now (tags .exit))) m ≡ doSystem s o (both (now (cells .entry)) (now (tags .entry))) m) ⌝ }
 {
     match s {
-        System::Ldsr { reg2, regid } => control::ldsr(reg2, regid, o, cells, tags),
-        System::Stsr { regid, reg2 } => control::stsr(regid, reg2, o, cells, tags),
         System::Trap { vector } => control::trap(vector, o, cells, tags),
         System::Halt => parts::next(parts::plus(4, parts::waits(o.code, o.nmi, 1, o))),
         System::Reti => control::reti(o, cells, tags),
@@ -53,7 +56,7 @@ fn perform(
     marks: &mut [u8],
 ) -> Out
     requires { ⌜ Prepared (now map) (now sizes) (now mem) (now marks) × TaskFields t ⌝ }
-    ensures { λ r. ⌜ after (wentOf r) (both (now (cells .exit)) (now (tags .exit))) (both (now (mem .exit)) (now (marks .exit))) ≡ doTask t (now (map .entry)) (openOf o) (both (now (cells .entry)) (now (tags .entry))) (both (now (mem .entry)) (now (marks .entry))) ⌝ }
+    ensures { λ r. ⌜ after (wentOf o r) (both (now (cells .exit)) (now (tags .exit))) (both (now (mem .exit)) (now (marks .exit))) ≡ doTask t (now (map .entry)) (openOf o) (both (now (cells .entry)) (now (tags .entry))) (both (now (mem .entry)) (now (marks .entry))) ⌝ }
 {
     match t {
         Task::Compute {
@@ -64,7 +67,7 @@ fn perform(
             len,
         } => {
             operations::operate(op, x, y, target, cells, tags);
-            core::next(core::plus(len, o))
+            core::plus(len, o)
         }
         Task::Load {
             size,
@@ -128,6 +131,8 @@ fn perform(
         Task::Branch { cond, disp } => control::branch(cond, disp, o, &*cells, &*tags),
         Task::Link { disp, target } => control::link(disp, target, o, cells, tags),
         Task::Condition { cond, target } => control::set_condition(cond, target, o, cells, tags),
+        Task::Ldsr { reg2, regid } => control::ldsr(reg2, regid, o, cells, tags),
+        Task::Stsr { regid, reg2 } => control::stsr(regid, reg2, o, cells, tags),
         Task::System(s) => {
             let w = system(s, core::unpack(o), cells, tags);
             core::settle(w, o)
@@ -147,7 +152,7 @@ fn execute(
     marks: &mut [u8],
 ) -> Out
     requires { ⌜ Prepared (now map) (now sizes) (now mem) (now marks) × DecodedFields d ⌝ }
-    ensures { λ r. ⌜ after (wentOf r) (both (now (cells .exit)) (now (tags .exit))) (both (now (mem .exit)) (now (marks .exit))) ≡ execute d (now (map .entry)) (openOf o) (both (now (cells .entry)) (now (tags .entry))) (both (now (mem .entry)) (now (marks .entry))) ⌝ }
+    ensures { λ r. ⌜ after (wentOf o r) (both (now (cells .exit)) (now (tags .exit))) (both (now (mem .exit)) (now (marks .exit))) ≡ execute d (now (map .entry)) (openOf o) (both (now (cells .entry)) (now (tags .entry))) (both (now (mem .entry)) (now (marks .entry))) ⌝ }
 {
     match d {
         Decoded::Valid(i) => {
@@ -161,6 +166,7 @@ fn execute(
         Decoded::Undefined => Out {
             answer: Answer::Undefined,
             place: core::pc(o),
+            calm: true,
             core: o,
         },
     }
@@ -168,73 +174,71 @@ fn execute(
 
 // A fetch that is refused.
 fn unfetched(answer: Answer, place: u32) -> Fetched
-    ensures { λ r. ⌜ (r .answer ≡ answer) × (r .place ≡ place) ⌝ }
+    ensures { λ r. ⌜ (r .answer ≡ answer) × (r .place ≡ place) × (r .decoded ≡ Decoded.Undefined) ⌝ }
 {
     Fetched {
         answer: answer,
         place: place,
-        first: 0,
-        second: 0,
+        decoded: Decoded::Undefined,
     }
 }
 
-// A second halfword is fetched only if the first asks for it.
+// A second halfword is fetched only if the first asks for it. Each form is decoded as soon as it is at hand: so the compiler need not
+// ask for the form again.
 fn fetch(map: &[u32; 16], sizes: &[u32; 12], pc: u32, mem: &[u8], marks: &[u8]) -> Fetched
     requires { ⌜ Prepared (now map) (now sizes) (now mem) (now marks) × (pc % 2 ≡ 0) ⌝ }
-    ensures { λ r. ⌜ ((o : Open) (c : Cells) → o .pc ≡ pc → fetched r (now (map .entry)) o c (both (now (mem .entry)) (now (marks .entry))) ≡ instruction (now (map .entry)) o c (both (now (mem .entry)) (now (marks .entry)))) ⌝ }
+    ensures { λ r. ⌜ DecodedFields (r .decoded) × ((o : Open) (c : Cells) → o .pc ≡ pc → fetched r (now (map .entry)) o c (both (now (mem .entry)) (now (marks .entry))) ≡ instruction (now (map .entry)) o c (both (now (mem .entry)) (now (marks .entry)))) ⌝ }
 {
-    match regions::find(map, sizes, regions::FETCH, pc) {
-        Spot::At(p) => {
-            let h = memory::fetch(mem, marks, p);
-            if h.mark {
-                return unfetched(Answer::Leak, pc);
-            }
-            let first = h.val as u16;
-            if decode::is_long(first) {
-                return fetch_second(map, sizes, first, pc, extend::sum24(pc, 2), mem, marks);
-            }
-            Fetched {
-                answer: Answer::Done,
-                place: 0,
-                first: first,
-                second: 0,
-            }
-        }
-        Spot::Nowhere => unfetched(Answer::NoFetch, pc),
+    let p = regions::locate(map, sizes, regions::FETCH, pc);
+    if !p.found {
+        return unfetched(Answer::NoFetch, pc);
+    }
+    let h = memory::fetch(mem, marks, p.at);
+    if h.mark {
+        return unfetched(Answer::Leak, pc);
+    }
+    let first = h.val as u16;
+    if decode::is_long(first) {
+        return fetch_second(map, sizes, first, pc, p, mem, marks);
+    }
+    Fetched {
+        answer: Answer::Done,
+        place: 0,
+        decoded: decode::one(first),
     }
 }
 
+// The first halfword lies at p.
 fn fetch_second(
     map: &[u32; 16],
     sizes: &[u32; 12],
     first: u16,
     pc: u32,
-    at: u32,
+    p: Place,
     mem: &[u8],
     marks: &[u8],
 ) -> Fetched
-    requires { ⌜ Prepared (now map) (now sizes) (now mem) (now marks) × (at % 2 ≡ 0) ⌝ }
-    ensures { λ r. ⌜ ((o : Open) (c : Cells) → o .pc ≡ pc → fetched r (now (map .entry)) o c (both (now (mem .entry)) (now (marks .entry))) ≡ fetch at (now (map .entry)) o c (both (now (mem .entry)) (now (marks .entry))) (λ w. execute (decode first w) (now (map .entry)) o c (both (now (mem .entry)) (now (marks .entry))))) ⌝ }
+    requires { ⌜ Prepared (now map) (now sizes) (now mem) (now marks) × (pc % 2 ≡ 0) × (long first ≡ true) × Onward (now map) FETCH pc p ⌝ }
+    ensures { λ r. ⌜ DecodedFields (r .decoded) × ((o : Open) (c : Cells) → o .pc ≡ pc → fetched r (now (map .entry)) o c (both (now (mem .entry)) (now (marks .entry))) ≡ fetch (sum24 pc 2) (now (map .entry)) o c (both (now (mem .entry)) (now (marks .entry))) (λ w. execute (decode first w) (now (map .entry)) o c (both (now (mem .entry)) (now (marks .entry))))) ⌝ }
 {
-    match regions::find(map, sizes, regions::FETCH, at) {
-        Spot::At(p) => {
-            let h = memory::fetch(mem, marks, p);
+    match regions::second(map, sizes, p, pc) {
+        Spot::At(q) => {
+            let h = memory::fetch(mem, marks, q);
             if h.mark {
                 return unfetched(Answer::Leak, pc);
             }
             Fetched {
                 answer: Answer::Done,
                 place: 0,
-                first: first,
-                second: h.val as u16,
+                decoded: decode::two(first, h.val as u16),
             }
         }
-        Spot::Nowhere => unfetched(Answer::NoFetch, at),
+        Spot::Nowhere => unfetched(Answer::NoFetch, extend::sum24(pc, 2)),
     }
 }
 
 // The instruction at PC.
-fn instruction(
+pub fn instruction(
     map: &[u32; 16],
     sizes: &[u32; 12],
     o: Packed,
@@ -244,63 +248,46 @@ fn instruction(
     marks: &mut [u8],
 ) -> Out
     requires { ⌜ Prepared (now map) (now sizes) (now mem) (now marks) × (openOf o .pc % 2 ≡ 0) ⌝ }
-    ensures { λ r. ⌜ after (wentOf r) (both (now (cells .exit)) (now (tags .exit))) (both (now (mem .exit)) (now (marks .exit))) ≡ instruction (now (map .entry)) (openOf o) (both (now (cells .entry)) (now (tags .entry))) (both (now (mem .entry)) (now (marks .entry))) ⌝ }
+    ensures { λ r. ⌜ after (wentOf o r) (both (now (cells .exit)) (now (tags .exit))) (both (now (mem .exit)) (now (marks .exit))) ≡ instruction (now (map .entry)) (openOf o) (both (now (cells .entry)) (now (tags .entry))) (both (now (mem .entry)) (now (marks .entry))) ⌝ }
 {
     let f = fetch(map, sizes, core::pc(o), &*mem, &*marks);
     let answer = f.answer;
+    let decoded = f.decoded;
     match answer {
-        Answer::Done => execute(
-            decode::decode(f.first, f.second),
-            map,
-            sizes,
-            o,
-            cells,
-            tags,
-            mem,
-            marks,
-        ),
+        Answer::Done => execute(decoded, map, sizes, o, cells, tags, mem, marks),
         _ => Out {
             answer: answer,
             place: f.place,
+            calm: true,
             core: o,
         },
     }
 }
 
-// One step: an NMI, a maskable code, HALT, and else the instruction. Mostly nothing waits, and one test says so.
-pub fn step(
-    map: &[u32; 16],
-    sizes: &[u32; 12],
-    o: Packed,
-    cells: &mut [u32; 38],
-    tags: &mut [u8; 38],
-    mem: &mut [u8],
-    marks: &mut [u8],
-) -> Out
-    requires { ⌜ Prepared (now map) (now sizes) (now mem) (now marks) × WellFormed (openOf o) (both (now cells) (now tags)) ⌝ }
-    ensures { λ r. ⌜ after (wentOf r) (both (now (cells .exit)) (now (tags .exit))) (both (now (mem .exit)) (now (marks .exit))) ≡ step (now (map .entry)) (openOf o) (both (now (cells .entry)) (now (tags .entry))) (both (now (mem .entry)) (now (marks .entry))) ⌝ }
+// Something comes before the next instruction: an NMI or a maskable code is accepted, or HALT's state goes on.
+pub fn acts(o: Packed) -> bool
+    ensures { λ r. ⌜ r ≡ acts (openOf o) ⌝ }
 {
-    if core::waits(o) {
-        let w = core::unpack(o);
-        if w.nmi == 1 {
-            if w.np == 0 {
-                return core::settle(control::take_nmi(w, cells, tags), o);
-            }
-        }
-        if w.code != 0 {
-            if w.np == 0 {
-                if w.id == 0 {
-                    return core::settle(control::take_code(w, cells, tags), o);
-                }
-            }
-        }
-        if w.halted == 1 {
-            return Out {
-                answer: Answer::Asleep,
-                place: 0,
-                core: o,
-            };
-        }
+    let w = core::unpack(o);
+    control::nmi_accepted(w) | (control::code_accepted(w) | (w.halted == 1))
+}
+
+// The step of what comes before the next instruction.
+pub fn attend(o: Packed, cells: &mut [u32; 38], tags: &mut [u8; 38]) -> Out
+    requires { ⌜ acts (openOf o) ≡ true ⌝ }
+    ensures { λ r. ⌜ ((map : List ℕ) (m : Cells) → after (wentOf o r) (both (now (cells .exit)) (now (tags .exit))) m ≡ step map (openOf o) (both (now (cells .entry)) (now (tags .entry))) m) ⌝ }
+{
+    let w = core::unpack(o);
+    if control::nmi_accepted(w) {
+        return core::settle(control::take_nmi(w, cells, tags), o);
     }
-    instruction(map, sizes, o, cells, tags, mem, marks)
+    if control::code_accepted(w) {
+        return core::settle(control::take_code(w, cells, tags), o);
+    }
+    Out {
+        answer: Answer::Asleep,
+        place: 0,
+        calm: true,
+        core: o,
+    }
 }

@@ -9,6 +9,7 @@ pub mod tasks;
 pub mod transfer;
 
 use insn::BitOp;
+use insn::Decoded;
 use insn::Size;
 use machine::Answer;
 use machine::Op;
@@ -23,10 +24,12 @@ pub struct Packed {
     pub rest: u64,
 }
 
-// How the code's step ends: `Done` with the next state, or a refusal with its place and the state as it was.
+// How the code's step ends: `Done`, or a refusal with its place. A calm step changes PC alone, and of its `core` only PC counts: where
+// it went on, nothing new can wait, and the next step need not ask.
 pub struct Out {
     pub answer: Answer,
     pub place: u32,
+    pub calm: bool,
     pub core: Packed,
 }
 
@@ -81,13 +84,19 @@ pub enum Task {
         cond: u32,
         target: u32,
     },
+    Ldsr {
+        reg2: u32,
+        regid: u32,
+    },
+    Stsr {
+        regid: u32,
+        reg2: u32,
+    },
     System(System),
 }
 
-// The instructions on system registers, exceptions and HALT.
+// The instructions that change more than PC of what is never marked.
 pub enum System {
-    Ldsr { reg2: u32, regid: u32 },
-    Stsr { regid: u32, reg2: u32 },
     Trap { vector: u32 },
     Halt,
     Reti,
@@ -95,10 +104,17 @@ pub enum System {
     Ei,
 }
 
-// What a fetch found: `Done` with the halfwords, 0 for a second one that is not asked for; or a refusal with its place.
+// What a fetch found: `Done` with what its halfwords decode to, or a refusal with its place.
 pub struct Fetched {
     pub answer: Answer,
     pub place: u32,
-    pub first: u16,
-    pub second: u16,
+    pub decoded: Decoded,
+}
+
+// How far a run has come after so many steps: `Done` where it goes on, or the answer and place of the step that was refused there.
+pub struct Reached {
+    pub answer: Answer,
+    pub place: u32,
+    pub steps: u32,
+    pub core: Packed,
 }

@@ -117,14 +117,14 @@ pub fn task_of(i: Insn, cells: &[u32; 38], tags: &[u8; 38]) -> Task
             cond: cond,
             target: reg2,
         },
-        Insn::Ldsr { reg2, regid } => Task::System(System::Ldsr {
+        Insn::Ldsr { reg2, regid } => Task::Ldsr {
             reg2: reg2,
             regid: regid,
-        }),
-        Insn::Stsr { regid, reg2 } => Task::System(System::Stsr {
+        },
+        Insn::Stsr { regid, reg2 } => Task::Stsr {
             regid: regid,
             reg2: reg2,
-        }),
+        },
         Insn::Shift { op, reg1, reg2 } => Task::Compute {
             op: operations::of_shift(op),
             x: cells::reg(cells, tags, reg1),

@@ -40,7 +40,7 @@ pub fn load(
     marks: &[u8],
 ) -> Out
     requires { ⌜ Prepared (now map) (now sizes) (now mem) (now marks) × (base < 32) × (target < 32) ⌝ }
-    ensures { λ r. ⌜ after (wentOf r) (both (now (cells .exit)) (now (tags .exit))) (both (now (mem .entry)) (now (marks .entry))) ≡ load size disp base target len (now (map .entry)) (openOf o) (both (now (cells .entry)) (now (tags .entry))) (both (now (mem .entry)) (now (marks .entry))) ⌝ }
+    ensures { λ r. ⌜ after (wentOf o r) (both (now (cells .exit)) (now (tags .exit))) (both (now (mem .entry)) (now (marks .entry))) ≡ load size disp base target len (now (map .entry)) (openOf o) (both (now (cells .entry)) (now (tags .entry))) (both (now (mem .entry)) (now (marks .entry))) ⌝ }
 {
     let b = cells::reg(&*cells, &*tags, base);
     if b.mark {
@@ -51,11 +51,12 @@ pub fn load(
         Spot::At(p) => {
             let v = memory::load(size, mem, marks, p);
             cells::put_reg(cells, tags, target, v);
-            core::next(core::plus(len, o))
+            core::plus(len, o)
         }
         Spot::Nowhere => Out {
             answer: Answer::NoRead,
             place: a,
+            calm: true,
             core: o,
         },
     }
@@ -76,7 +77,7 @@ pub fn store(
     marks: &mut [u8],
 ) -> Out
     requires { ⌜ Prepared (now map) (now sizes) (now mem) (now marks) × (base < 32) × (source < 32) ⌝ }
-    ensures { λ r. ⌜ after (wentOf r) (both (now (cells .entry)) (now (tags .entry))) (both (now (mem .exit)) (now (marks .exit))) ≡ store size disp base source len (now (map .entry)) (openOf o) (both (now (cells .entry)) (now (tags .entry))) (both (now (mem .entry)) (now (marks .entry))) ⌝ }
+    ensures { λ r. ⌜ after (wentOf o r) (both (now (cells .entry)) (now (tags .entry))) (both (now (mem .exit)) (now (marks .exit))) ≡ store size disp base source len (now (map .entry)) (openOf o) (both (now (cells .entry)) (now (tags .entry))) (both (now (mem .entry)) (now (marks .entry))) ⌝ }
 {
     let b = cells::reg(cells, tags, base);
     if b.mark {
@@ -87,11 +88,12 @@ pub fn store(
         Spot::At(p) => {
             let v = cells::reg(cells, tags, source);
             memory::store(size, mem, marks, p, v);
-            core::next(core::plus(len, o))
+            core::plus(len, o)
         }
         Spot::Nowhere => Out {
             answer: Answer::NoWrite,
             place: a,
+            calm: true,
             core: o,
         },
     }
@@ -112,7 +114,7 @@ pub fn bitwise(
     marks: &[u8],
 ) -> Out
     requires { ⌜ Prepared (now map) (now sizes) (now mem) (now marks) × (bit < 8) × (base < 32) ⌝ }
-    ensures { λ r. ⌜ after (wentOf r) (both (now (cells .exit)) (now (tags .exit))) (both (now (mem .exit)) (now (marks .entry))) ≡ bitwise op bit disp base (now (map .entry)) (openOf o) (both (now (cells .entry)) (now (tags .entry))) (both (now (mem .entry)) (now (marks .entry))) ⌝ }
+    ensures { λ r. ⌜ after (wentOf o r) (both (now (cells .exit)) (now (tags .exit))) (both (now (mem .exit)) (now (marks .entry))) ≡ bitwise op bit disp base (now (map .entry)) (openOf o) (both (now (cells .entry)) (now (tags .entry))) (both (now (mem .entry)) (now (marks .entry))) ⌝ }
 {
     let b = cells::reg(&*cells, &*tags, base);
     if b.mark {
@@ -124,17 +126,18 @@ pub fn bitwise(
             let t = memory::tested(bit, &*mem, marks, p);
             if memory::only_tests(op) {
                 psw::set_z(t.z, t.mark, cells, tags);
-                return core::next(core::plus(4, o));
+                return core::plus(4, o);
             }
             match regions::find(map, sizes, regions::WRITE, a) {
                 Spot::At(_) => {
                     psw::set_z(t.z, t.mark, cells, tags);
                     memory::change(op, bit, mem, p);
-                    core::next(core::plus(4, o))
+                    core::plus(4, o)
                 }
                 Spot::Nowhere => Out {
                     answer: Answer::NoWrite,
                     place: a,
+                    calm: true,
                     core: o,
                 },
             }
@@ -142,6 +145,7 @@ pub fn bitwise(
         Spot::Nowhere => Out {
             answer: Answer::NoRead,
             place: a,
+            calm: true,
             core: o,
         },
     }

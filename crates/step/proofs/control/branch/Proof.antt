@@ -22,30 +22,24 @@ returns c =
 plus-requires : tie.Need-plus-requires
 plus-requires c κs = search needs
 
-next-requires : tie.Need-next-requires
-next-requires c κs = search needs
-
 returns-2 : tie.Need-returns-2
 unfolding bcond
 returns-2 c =
-    let s = c .before .before .before .before in
+    let s = c .before .before .before in
     λ m.
     opened _ _ _ _ (s .before .condition .ensures) (s .if1 .left)
-    (on (c .next .ensures) (c .before .plus .ensures ∙ rw (eq-eqb _ _ (c .before .before .if2 .taken))) refl refl)
+    (on (c .plus .ensures) (rw (eq-eqb _ _ (c .before .if2 .taken))) refl refl)
 
 plus-requires-2 : tie.Need-plus-requires-2
 plus-requires-2 c κs = search needs
 
-next-requires-2 : tie.Need-next-requires-2
-next-requires-2 c κs = search needs
-
 returns-3 : tie.Need-returns-3
 unfolding bcond
 returns-3 c =
-    let s = c .before .before .before .before in
+    let s = c .before .before .before in
     λ m.
     opened _ _ _ _ (s .before .condition .ensures) (s .if1 .left)
-    (on (c .next2 .ensures) (c .before .plus2 .ensures ∙ rw (ne-eqb _ _ (c .before .before .if2 .left))) refl refl)
+    (on (c .plus2 .ensures) (rw (ne-eqb _ _ (c .before .if2 .left))) refl refl)
 
 pub branch-spec : {M : Type 1} → statement M
 branch-spec =
@@ -55,8 +49,6 @@ branch-spec =
     leak-requires
     returns
     plus-requires
-    next-requires
     returns-2
     plus-requires-2
-    next-requires-2
     returns-3)

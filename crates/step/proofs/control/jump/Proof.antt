@@ -22,18 +22,15 @@ mul-goto c = search needs
 goto-requires : tie.Need-goto-requires
 goto-requires c κs = search needs
 
-next-requires : tie.Need-next-requires
-next-requires c κs = search needs
-
 returns-2 : tie.Need-returns-2
 unfolding jmp
 returns-2 c =
-    let s = c .before .before .before in
+    let s = c .before .before in
     λ m.
     opened _ _ _ _ (s .before .reg .ensures) (s .if1 .left)
-    (on (c .next .ensures) (c .before .goto .ensures) refl refl)
+    (on (c .goto .ensures) refl refl refl)
 
 pub jump-spec : {M : Type 1} → statement M
 jump-spec =
     tie.close
-    (tie.spec reg-requires leak-requires returns mul-goto goto-requires next-requires returns-2)
+    (tie.spec reg-requires leak-requires returns mul-goto goto-requires returns-2)

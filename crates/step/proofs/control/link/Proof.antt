@@ -18,16 +18,13 @@ put-reg-requires c κs = search needs
 plus-requires : tie.Need-plus-requires
 plus-requires c κs = search needs
 
-next-requires : tie.Need-next-requires
-next-requires c κs = search needs
-
 returns : tie.Need-returns
 unfolding jarl
 returns c =
-    let pc′ = c .before .before .before .before .pc in
-    λ m. on (c .next .ensures) (c .before .plus .ensures) (c .before .before .put-reg .ensures ∙ rw (c .before .before .before .sum24 .ensures, pc′ .ensures)) refl
+    let pc′ = c .before .before .before .pc in
+    λ m. on (c .plus .ensures) refl (c .before .put-reg .ensures ∙ rw (c .before .before .sum24 .ensures, pc′ .ensures)) refl
 
 pub link-spec : {M : Type 1} → statement M
 link-spec =
     tie.close
-    (tie.spec pc-requires sum24-requires put-reg-requires plus-requires next-requires returns)
+    (tie.spec pc-requires sum24-requires put-reg-requires plus-requires returns)

@@ -14,15 +14,12 @@ put-reg-requires c κs = search needs
 plus-requires : tie.Need-plus-requires
 plus-requires c κs = search needs
 
-next-requires : tie.Need-next-requires
-next-requires c κs = search needs
-
 returns : tie.Need-returns
 returns c =
-    let s = c .before .before .before .before .before in
+    let s = c .before .before .before .before in
     λ m.
-    on (c .next .ensures) (c .before .plus .ensures) (c .before .before .put-reg .ensures ∙ rw (s .condition .ensures)) refl
+    on (c .plus .ensures) refl (c .before .put-reg .ensures ∙ rw (s .condition .ensures)) refl
 
 pub set-condition-spec : {M : Type 1} → statement M
 set-condition-spec =
-    tie.close (tie.spec condition-requires put-reg-requires plus-requires next-requires returns)
+    tie.close (tie.spec condition-requires put-reg-requires plus-requires returns)

@@ -1,5 +1,5 @@
 -- What went on fits by the contract; what was refused has no state to pack.
-use mathlib.Core.Path.{ap, _∙_}
+use mathlib.Core.Path.{ap}
 use Rattle.step.specs.Tasks.{goesOn}
 use Rattle.step.proofs.Answers.{stops}
 use borrow.Author.Needs.{needs}
@@ -12,14 +12,11 @@ enum-told c = search needs
 pack-requires : tie.Need-pack-requires
 pack-requires c κs = c .before .before .pre (ap goesOn (c .enum-told .given .1))
 
-next-requires : tie.Need-next-requires
-next-requires c κs = search needs
-
 returns : tie.Need-returns
-returns c = c .next .ensures ∙ rw (c .before .pack .ensures, c .before .before .enum-told .given .1)
+returns c = rw (c .pack .ensures, c .before .enum-told .given .1)
 
 returns-2 : tie.Need-returns-2
 returns-2 c = rw (stops (c .before .args .w .answer) (c .match .keys2))
 
 pub settle-spec : {M : Type 1} → statement M
-settle-spec = tie.close (tie.spec enum-told pack-requires next-requires returns returns-2)
+settle-spec = tie.close (tie.spec enum-told pack-requires returns returns-2)

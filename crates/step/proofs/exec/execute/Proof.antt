@@ -60,9 +60,10 @@ returns c =
 returns-2 : tie.Need-returns-2
 unfolding execute
 returns-2 c =
+    let args′ = c .before .before .before .before .before .before .before .before .before .args in
     let enum-told′ = c .before .before .before .before .before .enum-told in
     let unpack′ = c .before .before .before .before .unpack in
-    rw (enum-told′ .given .1) (settled (c .before .illegal .result) (c .settle .result) (c .settle .ensures) (c .before .illegal .ensures _ ∙ rw (unpack′ .ensures .0)))
+    rw (enum-told′ .given .1) (settled (args′ .o) (c .before .illegal .result) (c .settle .result) (c .settle .ensures) (c .before .illegal .ensures _ ∙ rw (unpack′ .ensures .0)))
 
 returns-3 : tie.Need-returns-3
 unfolding execute

@@ -1,64 +1,57 @@
--- What was fetched is decoded and carried out, or the fetch was refused.
 use mathlib.Core.Path.{sym, ap, _∙_}
-use native.Mathlib.Omega.{arith}
 use denote.Ref.{now}
-use Rattle.step.specs.Tasks.{openOf, goesOn}
-use Rattle.step.specs.TaskLaws.{decoded-fields}
-use Rattle.step.proofs.Answers.{stops}
 use Rattle.machine.specs.Marked.{both}
+use Rattle.step.specs.Tasks.{openOf, goesOn}
+use Rattle.step.proofs.Answers.{stops}
 use borrow.Author.Needs.{needs}
 use Rattle.step.proofs.exec.instruction.Statement.{statement}
 use Rattle.step.proofs.exec.instruction.Tie as tie
+use Rattle.step.proofs.exec.instruction.Reads as reads
+use Rattle.step.proofs.exec.instruction.Lts as lts
+use Rattle.step.proofs.core.pc.Reads as pc-reads
+use Rattle.step.proofs.exec.execute.Reads as execute-reads
+use Rattle.step.proofs.exec.fetch.Reads as fetch-reads
 
+-- src/exec.rt:253:31
 pc-requires : tie.Need-pc-requires
 pc-requires c κs = search needs
 
+-- src/exec.rt:253:9
 fetch-requires : tie.Need-fetch-requires
-fetch-requires c κs =
-    let pre′ = c .before .before .before .before .before .pre in
-    (pre′ .0, rw (c .before .before .pc .ensures) (pre′ .1))
+fetch-requires c κs = search needs
 
+-- src/exec.rt:257:57
 enum-told : tie.Need-enum-told
 enum-told c = search needs
 
-decode-requires : tie.Need-decode-requires
-decode-requires c κs = search needs
-
+-- src/exec.rt:257:25
 execute-requires : tie.Need-execute-requires
-execute-requires c κs =
-    let pre′ = c .before .before .before .before .before .before .before .before .before .before .before .before .before .pre in
-    let decode′ = c .before .before .before .before .decode in
-    (pre′ .0, rw (decode′ .ensures) (decoded-fields _ _ (omega arith) (omega arith)))
+execute-requires c κs = search needs
 
+-- src/exec.rt:241:1
 same-length : tie.Need-same-length
 same-length c = search needs
 
+-- src/exec.rt:241:1
 same-length-2 : tie.Need-same-length-2
 same-length-2 c = search needs
 
+-- src/exec.rt:241:1
 returns : tie.Need-returns
-returns c =
-    let args′ = c .before .before .before .before .before .before .before .before .before .before .before .before .before .before .before .before .before .before .args in
-    let pc′ = c .before .before .before .before .before .before .before .before .before .before .before .before .before .before .before .pc in
-    let fetch′ = c .before .before .before .before .before .before .before .before .before .before .before .before .fetch in
-    let enum-told′ = c .before .before .before .before .before .before .before .before .before .before .enum-told in
-    let decode′ = c .before .before .before .before .before .before .before .before .before .decode in
-    let execute′ = c .before .before .before .before .execute in
-    execute′ .ensures ∙ rw (decode′ .ensures)
-    (rw (ap goesOn (enum-told′ .given .1)) at (fetch′ .ensures (openOf (args′ .o)) (both (now (args′ .cells)) (now (args′ .tags))) (sym (pc′ .ensures))))
+returns c = c .before .before .before .before .execute .ensures ∙ (rw (ap goesOn (c .before .before .before .before .before .before .before .before .before .enum-told .given .1)) at (c .before .before .before .before .before .before .before .before .before .before .before .fetch .ensures .1 (openOf (c .before .before .before .before .before .before .before .before .before .before .before .before .before .before .before .before .before .args .o)) (both (now (c .before .before .before .before .before .before .before .before .before .before .before .before .before .before .before .before .before .args .cells)) (now (c .before .before .before .before .before .before .before .before .before .before .before .before .before .before .before .before .before .args .tags))) (sym (c .before .before .before .before .before .before .before .before .before .before .before .before .before .before .pc .ensures))))
 
+-- src/exec.rt:241:1
 same-length-3 : tie.Need-same-length-3
 same-length-3 c = search needs
 
+-- src/exec.rt:241:1
 same-length-4 : tie.Need-same-length-4
 same-length-4 c = search needs
 
+-- src/exec.rt:241:1
 returns-2 : tie.Need-returns-2
-returns-2 c =
-    let args′ = c .before .before .before .before .before .before .before .args in
-    let pc′ = c .before .before .before .before .pc in
-    rw (stops (c .before .fetch .result .answer) (c .match .keys2))
-    (rw (stops (c .before .fetch .result .answer) (c .match .keys2)) at (c .before .fetch .ensures (openOf (args′ .o)) (both (now (args′ .cells)) (now (args′ .tags))) (sym (pc′ .ensures))))
+returns-2 c = rw (stops (c .before .fetch .result .answer) (c .match .keys2))
+    (rw (stops (c .before .fetch .result .answer) (c .match .keys2)) at (c .before .fetch .ensures .1 (openOf (c .before .before .before .before .before .before .before .args .o)) (both (now (c .before .before .before .before .before .before .before .args .cells)) (now (c .before .before .before .before .before .before .before .args .tags))) (sym (c .before .before .before .before .pc .ensures))))
 
 pub instruction-spec : {M : Type 1} → statement M
 instruction-spec =
@@ -67,7 +60,6 @@ instruction-spec =
     pc-requires
     fetch-requires
     enum-told
-    decode-requires
     execute-requires
     same-length
     same-length-2

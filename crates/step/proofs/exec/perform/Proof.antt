@@ -20,9 +20,6 @@ operate-requires c κs =
 plus-requires : tie.Need-plus-requires
 plus-requires c κs = search needs
 
-next-requires : tie.Need-next-requires
-next-requires c κs = search needs
-
 enum-known-t-2 : tie.Need-enum-known-t-2
 enum-known-t-2 c = search needs
 
@@ -83,14 +80,30 @@ set-condition-requires c κs =
 enum-known-t-9 : tie.Need-enum-known-t-9
 enum-known-t-9 c = search needs
 
+ldsr-requires : tie.Need-ldsr-requires
+ldsr-requires c κs =
+    let pre′ = c .before .before .before .before .before .before .before .pre in
+    subst TaskFields (c .before .before .before .t9 .given .1) (pre′ .1)
+
+enum-known-t-10 : tie.Need-enum-known-t-10
+enum-known-t-10 c = search needs
+
+stsr-requires : tie.Need-stsr-requires
+stsr-requires c κs =
+    let pre′ = c .before .before .before .before .before .before .before .pre in
+    subst TaskFields (c .before .before .before .t10 .given .1) (pre′ .1)
+
+enum-known-t-11 : tie.Need-enum-known-t-11
+enum-known-t-11 c = search needs
+
 unpack-requires : tie.Need-unpack-requires
 unpack-requires c κs = search needs
 
 system-requires : tie.Need-system-requires
 system-requires c κs =
     let pre′ = c .before .before .before .before .before .before .before .before .pre in
-    let t9′ = c .before .before .before .before .t9 in
-    subst TaskFields (t9′ .given .1) (pre′ .1)
+    let t11′ = c .before .before .before .before .t11 in
+    subst TaskFields (t11′ .given .1) (pre′ .1)
 
 settle-requires : tie.Need-settle-requires
 settle-requires c κs =
@@ -100,8 +113,8 @@ settle-requires c κs =
 returns : tie.Need-returns
 unfolding doTask
 returns c =
-    let t′ = c .before .before .before .before .before .before .t in
-    rw (t′ .given .1) (on (c .next .ensures) (c .before .plus .ensures) (c .before .before .operate .ensures) refl)
+    let t′ = c .before .before .before .before .before .t in
+    rw (t′ .given .1) (on (c .plus .ensures) refl (c .before .operate .ensures) refl)
 
 same-length : tie.Need-same-length
 same-length c = search needs
@@ -167,9 +180,22 @@ returns-8 c =
 returns-9 : tie.Need-returns-9
 unfolding doTask
 returns-9 c =
-    let t9′ = c .before .before .before .before .before .before .t9 in
+    let t9′ = c .before .before .before .before .t9 in
+    rw (t9′ .given .1) (c .ldsr .ensures _)
+
+returns-10 : tie.Need-returns-10
+unfolding doTask
+returns-10 c =
+    let t10′ = c .before .before .before .before .t10 in
+    rw (t10′ .given .1) (c .stsr .ensures _)
+
+returns-11 : tie.Need-returns-11
+unfolding doTask
+returns-11 c =
+    let args′ = c .before .before .before .before .before .before .before .before .before .before .args in
+    let t11′ = c .before .before .before .before .before .before .t11 in
     let unpack′ = c .before .before .before .before .unpack in
-    rw (t9′ .given .1) (settled (c .before .system .result) (c .settle .result) (c .settle .ensures) (c .before .system .ensures _ ∙ rw (unpack′ .ensures .0)))
+    rw (t11′ .given .1) (settled (args′ .o) (c .before .system .result) (c .settle .result) (c .settle .ensures) (c .before .system .ensures _ ∙ rw (unpack′ .ensures .0)))
 
 pub perform-spec : {M : Type 1} → statement M
 perform-spec =
@@ -178,7 +204,6 @@ perform-spec =
     enum-known-t
     operate-requires
     plus-requires
-    next-requires
     enum-known-t-2
     load-requires
     enum-known-t-3
@@ -194,6 +219,10 @@ perform-spec =
     enum-known-t-8
     set-condition-requires
     enum-known-t-9
+    ldsr-requires
+    enum-known-t-10
+    stsr-requires
+    enum-known-t-11
     unpack-requires
     system-requires
     settle-requires
@@ -211,4 +240,6 @@ perform-spec =
     returns-6
     returns-7
     returns-8
-    returns-9)
+    returns-9
+    returns-10
+    returns-11)

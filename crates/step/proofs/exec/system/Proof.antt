@@ -8,20 +8,8 @@ use Rattle.step.proofs.exec.system.Tie as tie
 enum-known-s : tie.Need-enum-known-s
 enum-known-s c = search needs
 
-ldsr-requires : tie.Need-ldsr-requires
-ldsr-requires c κs = subst SystemFields (c .before .before .before .s .given .1) (c .before .before .before .before .before .pre)
-
-enum-known-s-2 : tie.Need-enum-known-s-2
-enum-known-s-2 c = search needs
-
-stsr-requires : tie.Need-stsr-requires
-stsr-requires c κs = subst SystemFields (c .before .before .before .s2 .given .1) (c .before .before .before .before .before .pre)
-
-enum-known-s-3 : tie.Need-enum-known-s-3
-enum-known-s-3 c = search needs
-
 trap-requires : tie.Need-trap-requires
-trap-requires c κs = subst SystemFields (c .before .before .before .s3 .given .1) (c .before .before .before .before .before .pre)
+trap-requires c κs = subst SystemFields (c .before .before .before .s .given .1) (c .before .before .before .before .before .pre)
 
 enum-told : tie.Need-enum-told
 enum-told c = search needs
@@ -67,41 +55,29 @@ next-requires-3 c κs = search needs
 
 returns : tie.Need-returns
 unfolding doSystem
-returns c = λ m. rw (c .before .before .before .before .s .given .1) (c .ldsr .ensures m)
+returns c = λ m. rw (c .before .before .before .before .s .given .1) (c .trap .ensures m)
 
 returns-2 : tie.Need-returns-2
 unfolding doSystem
-returns-2 c = λ m. rw (c .before .before .before .before .s2 .given .1) (c .stsr .ensures m)
+returns-2 c = λ m. rw (c .before .before .before .enum-told .given .1) (on (c .next .ensures) (c .before .plus .ensures ∙ rw (c .before .before .waits .ensures)) refl refl)
 
 returns-3 : tie.Need-returns-3
 unfolding doSystem
-returns-3 c = λ m. rw (c .before .before .before .before .s3 .given .1) (c .trap .ensures m)
+returns-3 c = λ m. rw (c .before .before .before .enum-told2 .given .1) (c .reti .ensures m)
 
 returns-4 : tie.Need-returns-4
 unfolding doSystem
-returns-4 c = λ m. rw (c .before .before .before .enum-told .given .1) (on (c .next .ensures) (c .before .plus .ensures ∙ rw (c .before .before .waits .ensures)) refl refl)
+returns-4 c = λ m. rw (c .before .before .before .enum-told3 .given .1) (on (c .next2 .ensures) (c .before .plus2 .ensures ∙ rw (c .before .before .modes .ensures)) refl refl)
 
 returns-5 : tie.Need-returns-5
 unfolding doSystem
-returns-5 c = λ m. rw (c .before .before .before .enum-told2 .given .1) (c .reti .ensures m)
-
-returns-6 : tie.Need-returns-6
-unfolding doSystem
-returns-6 c = λ m. rw (c .before .before .before .enum-told3 .given .1) (on (c .next2 .ensures) (c .before .plus2 .ensures ∙ rw (c .before .before .modes .ensures)) refl refl)
-
-returns-7 : tie.Need-returns-7
-unfolding doSystem
-returns-7 c = λ m. rw (c .before .before .before .enum-told4 .given .1) (on (c .next3 .ensures) (c .before .plus3 .ensures ∙ rw (c .before .before .modes2 .ensures)) refl refl)
+returns-5 c = λ m. rw (c .before .before .before .enum-told4 .given .1) (on (c .next3 .ensures) (c .before .plus3 .ensures ∙ rw (c .before .before .modes2 .ensures)) refl refl)
 
 pub system-spec : {M : Type 1} → statement M
 system-spec =
     tie.close
     (tie.spec
     enum-known-s
-    ldsr-requires
-    enum-known-s-2
-    stsr-requires
-    enum-known-s-3
     trap-requires
     enum-told
     waits-requires
@@ -121,6 +97,4 @@ system-spec =
     returns-2
     returns-3
     returns-4
-    returns-5
-    returns-6
-    returns-7)
+    returns-5)

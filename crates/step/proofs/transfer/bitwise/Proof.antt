@@ -46,21 +46,18 @@ set-z-requires c κs = search needs
 plus-requires : tie.Need-plus-requires
 plus-requires c κs = search needs
 
-next-requires : tie.Need-next-requires
-next-requires c κs = search needs
-
 same-length : tie.Need-same-length
 same-length c = search needs
 
 returns-2 : tie.Need-returns-2
 unfolding bitwise
 returns-2 c =
-    let t = c .before .before .before .before .before in
+    let t = c .before .before .before .before in
     let p = t .before .before .before .before .before in
     opened _ _ _ _ (p .before .before .before .before .before .reg .ensures) (p .before .before .before .before .if1 .left)
     (placed _ _ _ _ _ _ (p .before .before .before .address .ensures) (p .before .before .find .ensures) (p .p .given .1)
     (rw (sym (t .before .only-tests .ensures) ∙ t .if2 .taken)
-    (on (c .next .ensures) (c .before .plus .ensures) (c .before .before .set-z .ensures ∙ rw (t .before .before .tested .ensures .0, t .before .before .tested .ensures .1)) refl)))
+    (on (c .plus .ensures) refl (c .before .set-z .ensures ∙ rw (t .before .before .tested .ensures .0, t .before .before .tested .ensures .1)) refl)))
 
 find-requires-2 : tie.Need-find-requires-2
 find-requires-2 c κs = finds (c .before .before .before .before .before .before .before .before .before .before .before .before .before .before .before .pre .0) (omega arith)
@@ -82,9 +79,6 @@ change-requires c κs =
 plus-requires-2 : tie.Need-plus-requires-2
 plus-requires-2 c κs = search needs
 
-next-requires-2 : tie.Need-next-requires-2
-next-requires-2 c κs = search needs
-
 enum-told-2 : tie.Need-enum-told-2
 enum-told-2 c = search needs
 
@@ -97,15 +91,15 @@ same-length-2 c = search needs
 returns-3 : tie.Need-returns-3
 unfolding bitwise
 returns-3 c =
-    let t = c .before .before .before .before .before .before .before .before .before .before .before .before in
+    let t = c .before .before .before .before .before .before .before .before .before .before .before in
     let p = t .before .before .before .before .before in
     opened _ _ _ _ (p .before .before .before .before .before .reg .ensures) (p .before .before .before .before .if1 .left)
     (placed _ _ _ _ _ _ (p .before .before .before .address .ensures) (p .before .before .find .ensures) (p .p .given .1)
     (rw (sym (t .before .only-tests .ensures) ∙ t .if2 .left)
     (placed _ _ _ _ _ _ (p .before .before .before .address .ensures)
-    (c .before .before .before .before .before .before .before .before .before .before .before .find2 .ensures) (c .before .before .before .before .before .before .before .before .before .enum-told .given .1)
-    (on (c .next2 .ensures) (c .before .plus2 .ensures)
-    (c .before .before .before .before .before .before .set-z2 .ensures ∙ rw (t .before .before .tested .ensures .0, t .before .before .tested .ensures .1)) (c .before .before .before .before .change .ensures _)))))
+    (c .before .before .before .before .before .before .before .before .before .before .find2 .ensures) (c .before .before .before .before .before .before .before .before .enum-told .given .1)
+    (on (c .plus2 .ensures) refl
+    (c .before .before .before .before .before .set-z2 .ensures ∙ rw (t .before .before .tested .ensures .0, t .before .before .tested .ensures .1)) (c .before .before .before .change .ensures _)))))
 
 same-length-3 : tie.Need-same-length-3
 same-length-3 c = search needs
@@ -140,7 +134,6 @@ bitwise-spec =
     only-tests-requires
     set-z-requires
     plus-requires
-    next-requires
     same-length
     returns-2
     find-requires-2
@@ -148,7 +141,6 @@ bitwise-spec =
     set-z-requires-2
     change-requires
     plus-requires-2
-    next-requires-2
     enum-told-2
     enum-told-3
     same-length-2

@@ -41,19 +41,16 @@ put-reg-requires c κs = search needs
 plus-requires : tie.Need-plus-requires
 plus-requires c κs = search needs
 
-next-requires : tie.Need-next-requires
-next-requires c κs = search needs
-
 enum-told : tie.Need-enum-told
 enum-told c = search needs
 
 returns-2 : tie.Need-returns-2
 unfolding load
 returns-2 c =
-    let p = c .before .before .before .before .before .before .before in
+    let p = c .before .before .before .before .before .before in
     opened _ _ _ _ (p .before .before .before .before .before .reg .ensures) (p .before .before .before .before .if1 .left)
     (placed _ _ _ _ _ _ (p .before .before .before .address .ensures) (p .before .before .find .ensures) (p .p .given .1)
-    (on (c .next .ensures) (c .before .plus .ensures) (c .before .before .put-reg .ensures ∙ rw (c .before .before .before .before .before .load .ensures)) refl))
+    (on (c .plus .ensures) refl (c .before .put-reg .ensures ∙ rw (c .before .before .before .before .load .ensures)) refl))
 
 returns-3 : tie.Need-returns-3
 unfolding load
@@ -74,7 +71,6 @@ load-spec =
     load-requires
     put-reg-requires
     plus-requires
-    next-requires
     enum-told
     returns-2
     returns-3)

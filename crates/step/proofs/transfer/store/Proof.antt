@@ -41,9 +41,6 @@ store-requires c κs =
 plus-requires : tie.Need-plus-requires
 plus-requires c κs = search needs
 
-next-requires : tie.Need-next-requires
-next-requires c κs = search needs
-
 enum-told : tie.Need-enum-told
 enum-told c = search needs
 
@@ -56,11 +53,11 @@ same-length-2 c = search needs
 returns-2 : tie.Need-returns-2
 unfolding store
 returns-2 c =
-    let p = c .before .before .before .before .before .before .before .before .before .before .before in
+    let p = c .before .before .before .before .before .before .before .before .before .before in
     opened _ _ _ _ (p .before .before .before .before .before .reg .ensures) (p .before .before .before .before .if1 .left)
     (placed _ _ _ _ _ _ (p .before .before .before .address .ensures) (p .before .before .find .ensures) (p .p .given .1)
-    (on (c .next .ensures) (c .before .plus .ensures) refl
-    (c .before .before .before .before .before .before .store .ensures ∙ rw (c .before .before .before .before .before .before .before .before .before .reg2 .ensures))))
+    (on (c .plus .ensures) refl refl
+    (c .before .before .before .before .before .store .ensures ∙ rw (c .before .before .before .before .before .before .before .before .reg2 .ensures))))
 
 returns-3 : tie.Need-returns-3
 unfolding store
@@ -81,7 +78,6 @@ store-spec =
     reg-requires-2
     store-requires
     plus-requires
-    next-requires
     enum-told
     same-length
     same-length-2
