@@ -118,17 +118,16 @@ marks-turn m i b r h z l p q =
 
 -- the eleven words between the registers and the map: PSW and the words of marks are computed
 pub eleven-stored : (l s map : List ℕ) (pc psw psw′ eipc eipsw fepc fepsw ecr code waits regs regs′ marks marks′ : ℕ)
-    → length l ≡ 59 → length map ≡ 16 → take 32 l ≡ s → psw ≡ psw′ → regs ≡ regs′ → marks ≡ marks′
+    → length l ≡ 59 → take 32 l ≡ s → psw ≡ psw′ → regs ≡ regs′ → marks ≡ marks′
     → take 43
     (set (set (set (set (set (set (set (set (set (set (set l 32 pc) 33 psw) 34 eipc) 35 eipsw) 36 fepc) 37 fepsw) 38 ecr) 39 code) 40 waits) 41 regs) 42 marks)
-    ++ take 16 map
+    ++ map
     ≡ s ++ (pc ∷ psw′ ∷ eipc ∷ eipsw ∷ fepc ∷ fepsw ∷ ecr ∷ code ∷ waits ∷ regs′ ∷ marks′ ∷ map)
-eleven-stored l s map pc psw psw′ eipc eipsw fepc fepsw ecr code waits regs regs′ marks marks′ h n p e f g =
+eleven-stored l s map pc psw psw′ eipc eipsw fepc fepsw ecr code waits regs regs′ marks marks′ h p e f g =
     rw (
       e,
       f,
       g,
-      take-all 16 map (omega arith),
       stored-part (pc ∷ psw′ ∷ eipc ∷ eipsw ∷ fepc ∷ fepsw ∷ ecr ∷ code ∷ waits ∷ regs′ ∷ marks′ ∷ []) l 32 43 (omega arith) refl,
       p,
     )
@@ -160,5 +159,6 @@ mapped-next {l₀} {l} map k h n p = record { below = omega arith; filled = next
         subst (λ (j : ℕ). Filled (withMap l₀ map) 59 59 j (set l (43 + k) (getD map k 0))) {x = 43 + k + 1} {y = 43 + (k + 1)} (omega arith)
         (filled-next (withMap l₀ map) 59 59 (43 + k) _ _ l (omega arith) (omega arith) more refl (p .filled))
 
-pub mapped-all : {l₀ l : List ℕ} (map : List ℕ) (k : ℕ) → 16 ≤ k → Mapped l₀ map k l → l ≡ take 43 l₀ ++ take 16 map
-mapped-all {l₀} {l} map k h p = filled-all (withMap l₀ map) 59 (43 + k) l (omega arith) (p .filled)
+pub mapped-all : {l₀ l : List ℕ} (map : List ℕ) (k : ℕ) → 16 ≤ k → length map ≡ 16 → Mapped l₀ map k l → l ≡ take 43 l₀ ++ map
+mapped-all {l₀} {l} map k h n p =
+    filled-all (withMap l₀ map) 59 (43 + k) l (omega arith) (p .filled) ∙ ap (λ (s : List ℕ). take 43 l₀ ++ s) (take-all 16 map (omega arith))

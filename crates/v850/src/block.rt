@@ -5,8 +5,9 @@ ghost use Prim.Native.Nat.{ℕ, _+_, _*_, _^_, _<_};
 ghost use lib.ListN.{length, getD, take, drop, replicate};
 ghost use Rattle.machine.specs.Marked.{both};
 ghost use Rattle.machine.specs.Psw.{psw};
+ghost use Rattle.machine.specs.Run.{resetOpen, resetCells};
 ghost use Rattle.machine.specs.WellFormed.{WellFormed};
-ghost use Rattle.v850.specs.Block.{bytesOf, bytesOfWord, wordAt, wordsFrom, BYTES, WORDS, byte, mapIn, coreIn, numsIn, marksIn, packBits, wordsOf, goodState};
+ghost use Rattle.v850.specs.Block.{bytesOf, bytesOfWord, wordAt, wordsFrom, BYTES, WORDS, atMap, byte, mapIn, coreIn, numsIn, marksIn, packBits, wordsOf, goodState};
 ghost use Rattle.v850.specs.BlockLaws.{Marks, sysMarks};
 use machine::Open;
 
@@ -34,6 +35,9 @@ const REG_MARKS: usize = 41;
 const SYS_MARKS: usize = 42;
 
 pub const MAP: usize = 43;
+
+// PSW after reset: ID is set.
+const RESET_PSW: u32 = 0x20;
 
 // And of the report.
 pub const STEPS: usize = 0;
@@ -235,6 +239,18 @@ fn sys_marks(tags: &[u8; 38]) -> u32
     flags + 0x100 * eipsw + 0x10000 * fepsw + 0x1000000 * (eipc + 2 * fepc)
 }
 
+// The map, at the end of the words.
+fn put_map(ws: &mut [u32; 59], map: &[u32; 16])
+    requires { ⌜ (length (now ws) ≡ WORDS) × (length (now map) ≡ 16) ⌝ }
+    ensures { λ _. ⌜ now (ws .exit) ≡ take atMap (now (ws .entry)) ++ now (map .entry) ⌝ }
+{
+    let mut k: usize = 0;
+    while k < 16 {
+        ws[MAP + k] = map[k];
+        k += 1;
+    }
+}
+
 // All words.
 pub fn words_of(o: Open, cells: &[u32; 38], tags: &[u8; 38], map: &[u32; 16]) -> [u32; 59]
     requires { ⌜ WellFormed o (both (now cells) (now tags)) × (length (now map) ≡ 16) ⌝ }
@@ -257,11 +273,19 @@ pub fn words_of(o: Open, cells: &[u32; 38], tags: &[u8; 38], map: &[u32; 16]) ->
     ws[WAITS] = o.halted + 0x100 * o.nmi;
     ws[REG_MARKS] = reg_marks(tags);
     ws[SYS_MARKS] = sys_marks(tags);
-    let mut k: usize = 0;
-    while k < 16 {
-        ws[MAP + k] = map[k];
-        k += 1;
-    }
+    put_map(&mut ws, map);
+    ws
+}
+
+// The words after reset: 0, but for PSW and the map. Made by themselves, they leave the words of a run to the run alone, whose code the
+// compiler then makes in one piece.
+pub fn reset_words(map: &[u32; 16]) -> [u32; 59]
+    requires { ⌜ length (now map) ≡ 16 ⌝ }
+    ensures { λ r. ⌜ r ≡ wordsOf resetOpen resetCells (now (map .entry)) ⌝ }
+{
+    let mut ws = [0u32; 59];
+    ws[PSW] = RESET_PSW;
+    put_map(&mut ws, map);
     ws
 }
 

@@ -5,7 +5,6 @@ ghost use Rattle.v850.specs.Entry.{Left, called, Reset, reset, view};
 ghost use Rattle.v850.specs.Handed.{viewFrom, onBy};
 use crate::block;
 use machine::Answer;
-use machine::Open;
 use state::map_check;
 use state::regions;
 use step::run;
@@ -91,19 +90,7 @@ pub extern "C" fn v850_reset(block: &mut [u8]) -> u32
     }
     let old = block::words(block);
     let map = block::map_in(&old);
-    let core = Open {
-        pc: 0,
-        np: 0,
-        ep: 0,
-        id: 1,
-        ecr: 0,
-        code: 0,
-        nmi: 0,
-        halted: 0,
-    };
-    let cells = [0u32; 38];
-    let tags = [0u8; 38];
-    let ws = block::words_of(core, &cells, &tags, &map);
+    let ws = block::reset_words(&map);
     block::put_words(block, &ws);
     DONE
 }

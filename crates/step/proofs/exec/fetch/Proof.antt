@@ -28,9 +28,11 @@ unfetched-requires c κs = search needs
 -- src/exec.rt:194:9
 returns : tie.Need-returns
 unfolding instruction
-returns c = let e0 = no-place (c .before .before .before .locate .result) (c .before .before .before .locate .ensures .0) (c .before .if1 .taken) in
-    (undecoded (c .unfetched .ensures .2), λ o cs e. not-fetched (c .unfetched .result) _ o (c .unfetched .ensures .0) (c .unfetched .ensures .1) refl
-    (fetch-nowhere (now (c .before .before .before .before .before .before .args .map)) (c .before .before .before .before .before .before .args .pc) (c .before .before .before .before .before .before .pre .1) e0 o cs _ e _ refl))
+returns c = let e0 = no-place (c .before .before .before .locate .result) (c .before .before .before .locate .ensures .0) (c .before .if1 .taken) in (
+  undecoded (c .unfetched .ensures .2),
+  λ o cs e. not-fetched (c .unfetched .result) _ o (c .unfetched .ensures .0) (c .unfetched .ensures .1) refl
+      (fetch-nowhere (now (c .before .before .before .before .before .before .args .map)) (c .before .before .before .before .before .before .args .pc) (c .before .before .before .before .before .before .pre .1) e0 o cs _ e _ refl),
+)
 
 -- src/exec.rt:196:9
 fetch-requires : tie.Need-fetch-requires
@@ -43,9 +45,11 @@ unfetched-requires-2 c κs = search needs
 -- src/exec.rt:198:9
 returns-2 : tie.Need-returns-2
 unfolding instruction
-returns-2 c = let e0 = at-place (c .before .before .before .before .before .locate .result) (c .before .before .before .before .before .locate .ensures .0) (c .before .before .before .if1 .left) in
-    (undecoded (c .unfetched2 .ensures .2), λ o cs e. not-fetched (c .unfetched2 .result) _ o (c .unfetched2 .ensures .0) (c .unfetched2 .ensures .1 ∙ sym e) refl
-    (fetch-secret (now (c .before .before .before .before .before .before .before .before .args .map)) (c .before .before .before .before .before .before .before .before .args .pc) (c .before .before .before .before .before .before .before .before .pre .1) e0 o cs _ e _ refl (c .before .before .fetch .ensures) (c .before .if2 .taken)))
+returns-2 c = let e0 = at-place (c .before .before .before .before .before .locate .result) (c .before .before .before .before .before .locate .ensures .0) (c .before .before .before .if1 .left) in (
+  undecoded (c .unfetched2 .ensures .2),
+  λ o cs e. not-fetched (c .unfetched2 .result) _ o (c .unfetched2 .ensures .0) (c .unfetched2 .ensures .1 ∙ sym e) refl
+      (fetch-secret (now (c .before .before .before .before .before .before .before .before .args .map)) (c .before .before .before .before .before .before .before .before .args .pc) (c .before .before .before .before .before .before .before .before .pre .1) e0 o cs _ e _ refl (c .before .before .fetch .ensures) (c .before .if2 .taken)),
+)
 
 -- src/exec.rt:200:17
 cast-first : tie.Need-cast-first
@@ -61,9 +65,11 @@ fetch-second-requires c κs = (c .before .before .before .before .before .before
 
 -- src/exec.rt:202:9
 returns-3 : tie.Need-returns-3
-returns-3 c = let e0 = at-place (c .before .before .before .before .before .before .before .before .locate .result) (c .before .before .before .before .before .before .before .before .locate .ensures .0) (c .before .before .before .before .before .before .if1 .left) in
-    (c .fetch-second .ensures .0, λ o cs e. instruction-long (now (c .before .before .before .before .before .before .before .before .before .before .before .args .map)) (c .before .before .before .before .before .before .before .before .before .before .before .args .pc) (c .before .before .before .before .before .before .before .before .before .before .before .pre .1) e0 o cs _ e refl (c .before .before .before .before .before .fetch .ensures) (c .before .before .before .before .if2 .left)
-    (sym (c .before .before .is-long .ensures) ∙ c .before .if3 .taken) refl (c .fetch-second .ensures .1 o cs e))
+returns-3 c = let e0 = at-place (c .before .before .before .before .before .before .before .before .locate .result) (c .before .before .before .before .before .before .before .before .locate .ensures .0) (c .before .before .before .before .before .before .if1 .left) in (
+  c .fetch-second .ensures .0,
+  λ o cs e. instruction-long (now (c .before .before .before .before .before .before .before .before .before .before .before .args .map)) (c .before .before .before .before .before .before .before .before .before .before .before .args .pc) (c .before .before .before .before .before .before .before .before .before .before .before .pre .1) e0 o cs _ e refl (c .before .before .before .before .before .fetch .ensures) (c .before .before .before .before .if2 .left)
+      (sym (c .before .before .is-long .ensures) ∙ c .before .if3 .taken) refl (c .fetch-second .ensures .1 o cs e),
+)
 
 -- src/exec.rt:207:18
 one-requires : tie.Need-one-requires
@@ -72,9 +78,11 @@ one-requires c κs = sym (c .before .is-long .ensures) ∙ c .if3 .left
 -- src/exec.rt:188:1
 returns-4 : tie.Need-returns-4
 returns-4 c = let e0 = at-place (c .before .before .before .before .before .before .before .before .locate .result) (c .before .before .before .before .before .before .before .before .locate .ensures .0) (c .before .before .before .before .before .before .if1 .left) in
-    let small = half-small (now (c .before .before .before .before .before .before .before .before .before .before .before .args .mem)) (now (c .before .before .before .before .before .before .before .before .before .before .before .args .marks)) (c .before .before .before .before .before .before .before .before .locate .result .at) (λ i. omega (arith, c .before .before .before .before .before .before .before .before .before .before .shared-slice-known .given i)) (c .before .before .before .before .before .fetch .ensures) in
-    (rw (c .one .ensures 0) (decoded-fields _ 0 small (omega arith)), λ o cs e. instruction-short (now (c .before .before .before .before .before .before .before .before .before .before .before .args .map)) (c .before .before .before .before .before .before .before .before .before .before .before .args .pc) (c .before .before .before .before .before .before .before .before .before .before .before .pre .1) e0 o cs _ e refl (c .before .before .before .before .before .fetch .ensures) (c .before .before .before .before .if2 .left)
-    (sym (c .before .before .is-long .ensures) ∙ c .before .if3 .left) (rw (c .one .ensures 0)))
+    let small = half-small (now (c .before .before .before .before .before .before .before .before .before .before .before .args .mem)) (now (c .before .before .before .before .before .before .before .before .before .before .before .args .marks)) (c .before .before .before .before .before .before .before .before .locate .result .at) (λ i. omega (arith, c .before .before .before .before .before .before .before .before .before .before .shared-slice-known .given i)) (c .before .before .before .before .before .fetch .ensures) in (
+      rw (c .one .ensures 0) (decoded-fields _ 0 small (omega arith)),
+      λ o cs e. instruction-short (now (c .before .before .before .before .before .before .before .before .before .before .before .args .map)) (c .before .before .before .before .before .before .before .before .before .before .before .args .pc) (c .before .before .before .before .before .before .before .before .before .before .before .pre .1) e0 o cs _ e refl (c .before .before .before .before .before .fetch .ensures) (c .before .before .before .before .if2 .left)
+          (sym (c .before .before .is-long .ensures) ∙ c .before .if3 .left) (rw (c .one .ensures 0)),
+    )
 
 pub fetch-spec : {M : Type 1} → statement M
 fetch-spec =

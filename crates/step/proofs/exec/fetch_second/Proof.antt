@@ -34,8 +34,11 @@ unfetched-requires c κs = search needs
 
 -- src/exec.rt:228:17
 returns : tie.Need-returns
-returns c = (undecoded (c .unfetched .ensures .2), λ o cs e. not-fetched (c .unfetched .result) _ o (c .unfetched .ensures .0) (c .unfetched .ensures .1 ∙ sym e) refl
-    (fetch-secret (now (c .before .before .before .before .before .before .before .before .before .args .map)) (sum24 (c .before .before .before .before .before .before .before .before .before .args .pc) 2) (next-even (c .before .before .before .before .before .before .before .before .before .args .pc) (c .before .before .before .before .before .before .before .before .before .pre .1)) (c .before .before .before .before .before .before .second .ensures) o cs _ refl _ (c .before .before .before .before .q .given .1) (c .before .before .fetch .ensures) (c .before .if1 .taken)))
+returns c = (
+  undecoded (c .unfetched .ensures .2),
+  λ o cs e. not-fetched (c .unfetched .result) _ o (c .unfetched .ensures .0) (c .unfetched .ensures .1 ∙ sym e) refl
+      (fetch-secret (now (c .before .before .before .before .before .before .before .before .before .args .map)) (sum24 (c .before .before .before .before .before .before .before .before .before .args .pc) 2) (next-even (c .before .before .before .before .before .before .before .before .before .args .pc) (c .before .before .before .before .before .before .before .before .before .pre .1)) (c .before .before .before .before .before .before .second .ensures) o cs _ refl _ (c .before .before .before .before .q .given .1) (c .before .before .fetch .ensures) (c .before .if1 .taken)),
+)
 
 -- src/exec.rt:233:45
 cast-two : tie.Need-cast-two
@@ -64,8 +67,11 @@ returns-2 c = let small = half-small (now (c .before .before .before .before .be
 
 -- src/exec.rt:212:1
 returns-3 : tie.Need-returns-3
-returns-3 c = (undecoded (c .unfetched2 .ensures .2), λ o cs e. not-fetched (c .unfetched2 .result) _ o (c .unfetched2 .ensures .0) (c .unfetched2 .ensures .1 ∙ c .before .sum24 .ensures) refl
-    (fetch-nowhere (now (c .before .before .before .before .before .before .before .args .map)) (sum24 (c .before .before .before .before .before .before .before .args .pc) 2) (next-even (c .before .before .before .before .before .before .before .args .pc) (c .before .before .before .before .before .before .before .pre .1)) (c .before .before .before .before .second .ensures) o cs _ refl _ (c .before .before .enum-told .given .1)))
+returns-3 c = (
+  undecoded (c .unfetched2 .ensures .2),
+  λ o cs e. not-fetched (c .unfetched2 .result) _ o (c .unfetched2 .ensures .0) (c .unfetched2 .ensures .1 ∙ c .before .sum24 .ensures) refl
+      (fetch-nowhere (now (c .before .before .before .before .before .before .before .args .map)) (sum24 (c .before .before .before .before .before .before .before .args .pc) 2) (next-even (c .before .before .before .before .before .before .before .args .pc) (c .before .before .before .before .before .before .before .pre .1)) (c .before .before .before .before .second .ensures) o cs _ refl _ (c .before .before .enum-told .given .1)),
+)
 
 pub fetch-second-spec : {M : Type 1} → statement M
 fetch-second-spec =

@@ -1,10 +1,10 @@
 use mathlib.Core.Path.{refl, _∙_}
-use Prim.Native.Nat.{_+_, _-_, _≤_}
 use native.Mathlib.Omega.{arith}
-use borrow.Author.Needs.{needs}
+use Prim.Native.Nat.{_+_, _-_, _≤_}
 use lib.ListN.{take, length-set}
-use Rattle.v850.specs.BlockLaws.{formed-marks}
 use Rattle.v850.proofs.Fill.{Filled, filled-none, filled-next, filled-part, take-more, eleven-stored, Mapped, mapped-none, mapped-next, mapped-all}
+use borrow.Author.Needs.{needs}
+use Rattle.v850.specs.BlockLaws.{formed-marks}
 use Rattle.v850.proofs.block.words_of.Statement.{statement}
 use Rattle.v850.proofs.block.words_of.Tie as tie
 
@@ -14,125 +14,95 @@ Inv-loop o cells tags map ws₀ i₀ ws i = Filled (λ n. take n cells) 59 32 i 
 abbrev μ-loop : tie.MeasureT-loop
 μ-loop o cells tags map ws₀ i₀ ws i = 32 - i
 
-abbrev Inv-loop2 : tie.InvT-loop2
-Inv-loop2 cells tags map ws₀ i k₀ ws k = Mapped ws₀ map k ws
-
-abbrev μ-loop2 : tie.MeasureT-loop2
-μ-loop2 cells tags map ws₀ i k₀ ws k = 16 - k
-
-loop-holds : tie.Need-loop-holds Inv-loop μ-loop Inv-loop2 μ-loop2
+loop-holds : tie.Need-loop-holds Inv-loop μ-loop
 loop-holds c = filled-none (λ n. take n (c .args .cells .now)) 59 32 _ refl refl
 
-mul-ws : tie.Need-mul-ws Inv-loop μ-loop Inv-loop2 μ-loop2
+mul-ws : tie.Need-mul-ws Inv-loop μ-loop
 mul-ws c = search needs
 
-element-copy-out-ws : tie.Need-element-copy-out-ws Inv-loop μ-loop Inv-loop2 μ-loop2
+element-copy-out-ws : tie.Need-element-copy-out-ws Inv-loop μ-loop
 element-copy-out-ws c = search needs
 
-mul-ws-2 : tie.Need-mul-ws-2 Inv-loop μ-loop Inv-loop2 μ-loop2
+mul-ws-2 : tie.Need-mul-ws-2 Inv-loop μ-loop
 mul-ws-2 c = search needs
 
-array-write-ws : tie.Need-array-write-ws Inv-loop μ-loop Inv-loop2 μ-loop2
+array-write-ws : tie.Need-array-write-ws Inv-loop μ-loop
 array-write-ws c = search needs
 
-add-i : tie.Need-add-i Inv-loop μ-loop Inv-loop2 μ-loop2
+add-i : tie.Need-add-i Inv-loop μ-loop
 add-i c = search needs
 
-loop-less : tie.Need-loop-less Inv-loop μ-loop Inv-loop2 μ-loop2
+loop-less : tie.Need-loop-less Inv-loop μ-loop
 loop-less c = search needs
 
-loop-again : tie.Need-loop-again Inv-loop μ-loop Inv-loop2 μ-loop2
+loop-again : tie.Need-loop-again Inv-loop μ-loop
 loop-again c = filled-next (λ n. take n (c .before .before .before .args .cells .now)) 59 32 (c .before .before .loop .i) _ _ (c .before .before .loop .ws) (omega arith) (omega arith) (take-more (c .before .before .before .args .cells .now) (c .before .before .loop .i) (omega (arith, c .before .before .before .pre .0 .nums))) refl (c .before .before .loop .inv)
 
-array-write-ws-2 : tie.Need-array-write-ws-2 Inv-loop μ-loop Inv-loop2 μ-loop2
+array-write-ws-2 : tie.Need-array-write-ws-2 Inv-loop μ-loop
 array-write-ws-2 c = search needs
 
-psw-requires : tie.Need-psw-requires Inv-loop μ-loop Inv-loop2 μ-loop2
+psw-requires : tie.Need-psw-requires Inv-loop μ-loop
 psw-requires c κs = search needs
 
-array-write-ws-3 : tie.Need-array-write-ws-3 Inv-loop μ-loop Inv-loop2 μ-loop2
+array-write-ws-3 : tie.Need-array-write-ws-3 Inv-loop μ-loop
 array-write-ws-3 c = search needs
 
-element-copy-out-ws-2 : tie.Need-element-copy-out-ws-2 Inv-loop μ-loop Inv-loop2 μ-loop2
+element-copy-out-ws-2 : tie.Need-element-copy-out-ws-2 Inv-loop μ-loop
 element-copy-out-ws-2 c = search needs
 
-array-write-ws-4 : tie.Need-array-write-ws-4 Inv-loop μ-loop Inv-loop2 μ-loop2
+array-write-ws-4 : tie.Need-array-write-ws-4 Inv-loop μ-loop
 array-write-ws-4 c = search needs
 
-element-copy-out-ws-3 : tie.Need-element-copy-out-ws-3 Inv-loop μ-loop Inv-loop2 μ-loop2
+element-copy-out-ws-3 : tie.Need-element-copy-out-ws-3 Inv-loop μ-loop
 element-copy-out-ws-3 c = search needs
 
-array-write-ws-5 : tie.Need-array-write-ws-5 Inv-loop μ-loop Inv-loop2 μ-loop2
+array-write-ws-5 : tie.Need-array-write-ws-5 Inv-loop μ-loop
 array-write-ws-5 c = search needs
 
-element-copy-out-ws-4 : tie.Need-element-copy-out-ws-4 Inv-loop μ-loop Inv-loop2 μ-loop2
+element-copy-out-ws-4 : tie.Need-element-copy-out-ws-4 Inv-loop μ-loop
 element-copy-out-ws-4 c = search needs
 
-array-write-ws-6 : tie.Need-array-write-ws-6 Inv-loop μ-loop Inv-loop2 μ-loop2
+array-write-ws-6 : tie.Need-array-write-ws-6 Inv-loop μ-loop
 array-write-ws-6 c = search needs
 
-element-copy-out-ws-5 : tie.Need-element-copy-out-ws-5 Inv-loop μ-loop Inv-loop2 μ-loop2
+element-copy-out-ws-5 : tie.Need-element-copy-out-ws-5 Inv-loop μ-loop
 element-copy-out-ws-5 c = search needs
 
-array-write-ws-7 : tie.Need-array-write-ws-7 Inv-loop μ-loop Inv-loop2 μ-loop2
+array-write-ws-7 : tie.Need-array-write-ws-7 Inv-loop μ-loop
 array-write-ws-7 c = search needs
 
-array-write-ws-8 : tie.Need-array-write-ws-8 Inv-loop μ-loop Inv-loop2 μ-loop2
+array-write-ws-8 : tie.Need-array-write-ws-8 Inv-loop μ-loop
 array-write-ws-8 c = search needs
 
-array-write-ws-9 : tie.Need-array-write-ws-9 Inv-loop μ-loop Inv-loop2 μ-loop2
+array-write-ws-9 : tie.Need-array-write-ws-9 Inv-loop μ-loop
 array-write-ws-9 c = search needs
 
-mul-ws-3 : tie.Need-mul-ws-3 Inv-loop μ-loop Inv-loop2 μ-loop2
+mul-ws-3 : tie.Need-mul-ws-3 Inv-loop μ-loop
 mul-ws-3 c = search needs
 
-add-ws : tie.Need-add-ws Inv-loop μ-loop Inv-loop2 μ-loop2
+add-ws : tie.Need-add-ws Inv-loop μ-loop
 add-ws c = search needs
 
-array-write-ws-10 : tie.Need-array-write-ws-10 Inv-loop μ-loop Inv-loop2 μ-loop2
+array-write-ws-10 : tie.Need-array-write-ws-10 Inv-loop μ-loop
 array-write-ws-10 c = search needs
 
-reg-marks-requires : tie.Need-reg-marks-requires Inv-loop μ-loop Inv-loop2 μ-loop2
+reg-marks-requires : tie.Need-reg-marks-requires Inv-loop μ-loop
 reg-marks-requires c κs = formed-marks (c .before .before .before .before .before .before .before .before .before .pre .0)
 
-array-write-ws-11 : tie.Need-array-write-ws-11 Inv-loop μ-loop Inv-loop2 μ-loop2
+array-write-ws-11 : tie.Need-array-write-ws-11 Inv-loop μ-loop
 array-write-ws-11 c = search needs
 
-sys-marks-requires : tie.Need-sys-marks-requires Inv-loop μ-loop Inv-loop2 μ-loop2
+sys-marks-requires : tie.Need-sys-marks-requires Inv-loop μ-loop
 sys-marks-requires c κs = formed-marks (c .before .before .before .before .before .before .before .before .before .before .pre .0)
 
-array-write-ws-12 : tie.Need-array-write-ws-12 Inv-loop μ-loop Inv-loop2 μ-loop2
+array-write-ws-12 : tie.Need-array-write-ws-12 Inv-loop μ-loop
 array-write-ws-12 c = search needs
 
-loop2-holds : tie.Need-loop2-holds Inv-loop μ-loop Inv-loop2 μ-loop2
-loop2-holds c = mapped-none _ (c .before .before .before .before .before .before .before .before .before .before .before .args .map .now) (simp length-set (c .before .before .before .before .before .before .before .before .before .before .loop .inv .long))
+put-map-requires : tie.Need-put-map-requires Inv-loop μ-loop
+put-map-requires c κs = (simp length-set (c .before .before .before .before .before .before .before .before .before .before .before .loop .inv .long), c .before .before .before .before .before .before .before .before .before .before .before .before .pre .1)
 
-mul-ws-4 : tie.Need-mul-ws-4 Inv-loop μ-loop Inv-loop2 μ-loop2
-mul-ws-4 c = search needs
-
-element-copy-out-ws-6 : tie.Need-element-copy-out-ws-6 Inv-loop μ-loop Inv-loop2 μ-loop2
-element-copy-out-ws-6 c = search needs
-
-add-ws-2 : tie.Need-add-ws-2 Inv-loop μ-loop Inv-loop2 μ-loop2
-add-ws-2 c = search needs
-
-mul-ws-5 : tie.Need-mul-ws-5 Inv-loop μ-loop Inv-loop2 μ-loop2
-mul-ws-5 c = search needs
-
-array-write-ws-13 : tie.Need-array-write-ws-13 Inv-loop μ-loop Inv-loop2 μ-loop2
-array-write-ws-13 c = search needs
-
-add-k : tie.Need-add-k Inv-loop μ-loop Inv-loop2 μ-loop2
-add-k c = search needs
-
-loop2-less : tie.Need-loop2-less Inv-loop μ-loop Inv-loop2 μ-loop2
-loop2-less c = search needs
-
-loop2-again : tie.Need-loop2-again Inv-loop μ-loop Inv-loop2 μ-loop2
-loop2-again c = mapped-next (c .before .before .before .before .before .before .before .before .before .before .before .before .before .before .args .map .now) (c .before .before .loop2 .k) (omega arith) (c .before .before .before .before .before .before .before .before .before .before .before .before .before .before .pre .1) (c .before .before .loop2 .inv)
-
-returns : tie.Need-returns Inv-loop μ-loop Inv-loop2 μ-loop2
-returns c = mapped-all (c .before .before .before .before .before .before .before .before .before .before .before .before .before .args .map .now) (c .before .loop2 .k) (c .loop2-test .left) (c .before .loop2 .inv) ∙ eleven-stored (c .before .before .before .before .before .before .before .before .before .before .before .before .loop .ws) _ (c .before .before .before .before .before .before .before .before .before .before .before .before .before .args .map .now) _ _ _ _ _ _ _ _ _ _ _ _ _ _ (c .before .before .before .before .before .before .before .before .before .before .before .before .loop .inv .long) (c .before .before .before .before .before .before .before .before .before .before .before .before .before .pre .1) (filled-part (λ n. take n (c .before .before .before .before .before .before .before .before .before .before .before .before .before .args .cells .now)) 59 32 (c .before .before .before .before .before .before .before .before .before .before .before .before .loop .i) (c .before .before .before .before .before .before .before .before .before .before .before .before .loop .ws) (c .before .before .before .before .before .before .before .before .before .before .before .loop-test .left) (c .before .before .before .before .before .before .before .before .before .before .before .before .loop .inv)) (c .before .before .before .before .before .before .before .before .before .before .psw .ensures (c .before .before .before .before .before .before .before .before .before .before .before .before .before .args .tags .now)) (c .before .before .before .reg-marks .ensures) (c .before .before .sys-marks .ensures)
+returns : tie.Need-returns Inv-loop μ-loop
+returns c = c .put-map .ensures ∙ eleven-stored (c .before .before .before .before .before .before .before .before .before .before .before .before .loop .ws) _ (c .before .before .before .before .before .before .before .before .before .before .before .before .before .args .map .now) _ _ _ _ _ _ _ _ _ _ _ _ _ _ (c .before .before .before .before .before .before .before .before .before .before .before .before .loop .inv .long) (filled-part (λ n. take n (c .before .before .before .before .before .before .before .before .before .before .before .before .before .args .cells .now)) 59 32 (c .before .before .before .before .before .before .before .before .before .before .before .before .loop .i) (c .before .before .before .before .before .before .before .before .before .before .before .before .loop .ws) (c .before .before .before .before .before .before .before .before .before .before .before .loop-test .left) (c .before .before .before .before .before .before .before .before .before .before .before .before .loop .inv)) (c .before .before .before .before .before .before .before .before .before .before .psw .ensures (c .before .before .before .before .before .before .before .before .before .before .before .before .before .args .tags .now)) (c .before .before .before .reg-marks .ensures) (c .before .before .sys-marks .ensures)
 
 pub words-of-spec : {M : Type 1} → statement M
 words-of-spec =
@@ -140,8 +110,6 @@ words-of-spec =
     (tie.spec
     Inv-loop
     μ-loop
-    Inv-loop2
-    μ-loop2
     loop-holds
     mul-ws
     element-copy-out-ws
@@ -170,13 +138,5 @@ words-of-spec =
     array-write-ws-11
     sys-marks-requires
     array-write-ws-12
-    loop2-holds
-    mul-ws-4
-    element-copy-out-ws-6
-    add-ws-2
-    mul-ws-5
-    array-write-ws-13
-    add-k
-    loop2-less
-    loop2-again
+    put-map-requires
     returns)

@@ -4,7 +4,6 @@ use Prim.Native.Nat.{ℕ}
 use borrow.Author.Needs.{needs}
 use borrow.Author.Tests.{eq-eqb, ne-eqb}
 use lib.ListN.{length}
-use Rattle.machine.specs.Invariants.{reset-well-formed}
 use Rattle.machine.specs.Run.{resetOpen, resetCells}
 use Rattle.v850.specs.Block.{bytesOf, wordsOf, mapIn}
 use Rattle.v850.specs.Entry.{reset}
@@ -21,8 +20,8 @@ words-requires c κs = search needs
 map-in-requires : tie.Need-map-in-requires
 map-in-requires c κs = search needs
 
-words-of-requires : tie.Need-words-of-requires
-words-of-requires c κs = (reset-well-formed, search needs)
+reset-words-requires : tie.Need-reset-words-requires
+reset-words-requires c κs = search needs
 
 put-words-requires : tie.Need-put-words-requires
 put-words-requires c κs = search needs
@@ -32,7 +31,16 @@ same-length c = search needs
 
 returns-2 : tie.Need-returns-2
 unfolding reset
-returns-2 c = rw (eq-eqb (length (c .before .before .before .before .before .before .before .before .before .before .before .before .before .before .before .args .block .now)) 236 (c .before .before .before .before .before .before .before .before .before .before .before .before .before .if1 .left)) (ap (λ (b : List ℕ). record { answer = 0; block = b }) (c .before .before .put-words .ensures ∙ ap bytesOf (c .before .before .before .before .before .words-of .ensures ∙ ap (wordsOf resetOpen resetCells) (c .before .before .before .before .before .before .before .before .before .map-in .ensures ∙ ap mapIn (c .before .before .before .before .before .before .before .before .before .before .before .words .ensures)))))
+returns-2 c =
+    let args′ = c .before .before .before .before .before .before .before .before .before .before .before .before .before .args in
+    let if1′ = c .before .before .before .before .before .before .before .before .before .before .before .if1 in
+    let words′ = c .before .before .before .before .before .before .before .before .before .words in
+    let map-in′ = c .before .before .before .before .before .before .before .map-in in
+    let reset-words′ = c .before .before .before .before .before .reset-words in
+    let put-words′ = c .before .before .put-words in
+    rw (eq-eqb (length (args′ .block .now)) 236 (if1′ .left))
+    (ap (λ (b : List ℕ). record { answer = 0; block = b })
+    (put-words′ .ensures ∙ ap bytesOf (reset-words′ .ensures ∙ ap (wordsOf resetOpen resetCells) (map-in′ .ensures ∙ ap mapIn (words′ .ensures)))))
 
 pub v850-reset-spec : {M : Type 1} → statement M
 v850-reset-spec =
@@ -41,7 +49,7 @@ v850-reset-spec =
     returns
     words-requires
     map-in-requires
-    words-of-requires
+    reset-words-requires
     put-words-requires
     same-length
     returns-2)
