@@ -14,11 +14,11 @@ use word::extend;
 use word::sums;
 
 // Rights by the place of their bit.
-pub const READ: u32 = 0;
+pub const TO_READ: u32 = 0;
 
-pub const WRITE: u32 = 1;
+pub const TO_WRITE: u32 = 1;
 
-pub const FETCH: u32 = 2;
+pub const TO_FETCH: u32 = 2;
 
 // The words of region k.
 pub fn base(map: &[u32; 16], k: usize) -> u32
@@ -66,18 +66,18 @@ pub fn sizes(map: &[u32; 16]) -> [u32; 12]
     ensures { λ r. ⌜ Sizes (now (map .entry)) r ⌝ }
 {
     [
-        seen(map, READ, 0),
-        seen(map, READ, 1),
-        seen(map, READ, 2),
-        seen(map, READ, 3),
-        seen(map, WRITE, 0),
-        seen(map, WRITE, 1),
-        seen(map, WRITE, 2),
-        seen(map, WRITE, 3),
-        seen(map, FETCH, 0),
-        seen(map, FETCH, 1),
-        seen(map, FETCH, 2),
-        seen(map, FETCH, 3),
+        seen(map, TO_READ, 0),
+        seen(map, TO_READ, 1),
+        seen(map, TO_READ, 2),
+        seen(map, TO_READ, 3),
+        seen(map, TO_WRITE, 0),
+        seen(map, TO_WRITE, 1),
+        seen(map, TO_WRITE, 2),
+        seen(map, TO_WRITE, 3),
+        seen(map, TO_FETCH, 0),
+        seen(map, TO_FETCH, 1),
+        seen(map, TO_FETCH, 2),
+        seen(map, TO_FETCH, 3),
     ]
 }
 
@@ -155,5 +155,5 @@ pub fn second(map: &[u32; 16], sizes: &[u32; 12], p: Place, a: u32) -> Spot
     if 2 < p.left {
         return Spot::At(p.at + 2);
     }
-    find(map, sizes, FETCH, extend::sum24(a, 2))
+    find(map, sizes, TO_FETCH, extend::sum24(a, 2))
 }

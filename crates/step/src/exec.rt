@@ -189,7 +189,7 @@ fn fetch(map: &[u32; 16], sizes: &[u32; 12], pc: u32, mem: &[u8], marks: &[u8]) 
     requires { ⌜ Prepared (now map) (now sizes) (now mem) (now marks) × (pc % 2 ≡ 0) ⌝ }
     ensures { λ r. ⌜ DecodedFields (r .decoded) × ((o : Open) (c : Cells) → o .pc ≡ pc → fetched r (now (map .entry)) o c (both (now (mem .entry)) (now (marks .entry))) ≡ instruction (now (map .entry)) o c (both (now (mem .entry)) (now (marks .entry)))) ⌝ }
 {
-    let p = regions::locate(map, sizes, regions::FETCH, pc);
+    let p = regions::locate(map, sizes, regions::TO_FETCH, pc);
     if !p.found {
         return unfetched(Answer::NoFetch, pc);
     }

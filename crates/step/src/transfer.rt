@@ -47,7 +47,7 @@ pub fn load(
         return core::leak(o);
     }
     let a = address(size, b.val, disp);
-    match regions::find(map, sizes, regions::READ, a) {
+    match regions::find(map, sizes, regions::TO_READ, a) {
         Spot::At(p) => {
             let v = memory::load(size, mem, marks, p);
             cells::put_reg(cells, tags, target, v);
@@ -84,7 +84,7 @@ pub fn store(
         return core::leak(o);
     }
     let a = address(size, b.val, disp);
-    match regions::find(map, sizes, regions::WRITE, a) {
+    match regions::find(map, sizes, regions::TO_WRITE, a) {
         Spot::At(p) => {
             let v = cells::reg(cells, tags, source);
             memory::store(size, mem, marks, p, v);
@@ -121,14 +121,14 @@ pub fn bitwise(
         return core::leak(o);
     }
     let a = address(Size::Byte, b.val, disp);
-    match regions::find(map, sizes, regions::READ, a) {
+    match regions::find(map, sizes, regions::TO_READ, a) {
         Spot::At(p) => {
             let t = memory::tested(bit, &*mem, marks, p);
             if memory::only_tests(op) {
                 psw::set_z(t.z, t.mark, cells, tags);
                 return core::plus(4, o);
             }
-            match regions::find(map, sizes, regions::WRITE, a) {
+            match regions::find(map, sizes, regions::TO_WRITE, a) {
                 Spot::At(_) => {
                     psw::set_z(t.z, t.mark, cells, tags);
                     memory::change(op, bit, mem, p);

@@ -1,14 +1,10 @@
-use borrow.Author.Needs.{needs}
+-- A calm step takes its PC; another takes all.
 use Rattle.step.proofs.core.after.Statement.{statement}
 use Rattle.step.proofs.core.after.Tie as tie
-use Rattle.step.proofs.core.after.Reads as reads
-use Rattle.step.proofs.core.after.Lts as lts
 
--- src/core.rt:68:1
 returns : tie.Need-returns
 returns c = rw (c .if1 .taken)
 
--- src/core.rt:68:1
 returns-2 : tie.Need-returns-2
 returns-2 c = rw (c .before .if1 .left)
 

@@ -1,3 +1,4 @@
+-- The first halfword is nowhere, marked or at hand; whether a second one follows is what decoding asks for.
 use mathlib.Core.Path.{refl, sym, _∙_}
 use native.Mathlib.Omega.{arith}
 use denote.Ref.{now}
@@ -8,80 +9,101 @@ use Rattle.step.specs.FetchLaws.{at-place, no-place, undecoded, not-fetc
 use borrow.Author.Needs.{needs}
 use Rattle.step.proofs.exec.fetch.Statement.{statement}
 use Rattle.step.proofs.exec.fetch.Tie as tie
-use Rattle.step.proofs.exec.fetch.Reads as reads
-use Rattle.step.proofs.exec.fetch.Lts as lts
-use Rattle.insn.proofs.decode.is_long.Reads as is-long-reads
-use Rattle.insn.proofs.decode.one.Reads as one-reads
-use Rattle.state.proofs.memory.fetch.Reads as fetch-reads
-use Rattle.state.proofs.regions.locate.Reads as locate-reads
-use Rattle.step.proofs.exec.fetch_second.Reads as fetch-second-reads
-use Rattle.step.proofs.exec.unfetched.Reads as unfetched-reads
 
--- src/exec.rt:192:9
 locate-requires : tie.Need-locate-requires
-locate-requires c κs = finds (c .before .before .pre .0) (omega arith)
+locate-requires c κs =
+    let pre′ = c .before .before .pre in
+    finds (pre′ .0) (omega arith)
 
--- src/exec.rt:194:9
 unfetched-requires : tie.Need-unfetched-requires
 unfetched-requires c κs = search needs
 
--- src/exec.rt:194:9
 returns : tie.Need-returns
 unfolding instruction
-returns c = let e0 = no-place (c .before .before .before .locate .result) (c .before .before .before .locate .ensures .0) (c .before .if1 .taken) in (
-  undecoded (c .unfetched .ensures .2),
-  λ o cs e. not-fetched (c .unfetched .result) _ o (c .unfetched .ensures .0) (c .unfetched .ensures .1) refl
-      (fetch-nowhere (now (c .before .before .before .before .before .before .args .map)) (c .before .before .before .before .before .before .args .pc) (c .before .before .before .before .before .before .pre .1) e0 o cs _ e _ refl),
-)
+returns c =
+    let args′ = c .before .before .before .before .before .before .args in
+    let pre′ = c .before .before .before .before .before .before .pre in
+    let locate′ = c .before .before .before .locate in
+    let e0 = no-place (locate′ .result) (locate′ .ensures .0) (c .before .if1 .taken) in (
+      undecoded (c .unfetched .ensures .2),
+      λ o cs e. not-fetched (c .unfetched .result) _ o (c .unfetched .ensures .0) (c .unfetched .ensures .1) refl
+          (fetch-nowhere (now (args′ .map)) (args′ .pc) (pre′ .1) e0 o cs _ e _ refl),
+    )
 
--- src/exec.rt:196:9
 fetch-requires : tie.Need-fetch-requires
-fetch-requires c κs = half-fits (now (c .before .before .before .before .before .args .map)) (c .before .before .before .before .before .args .pc) (c .before .before .before .before .before .pre .1) (at-place (c .before .before .locate .result) (c .before .before .locate .ensures .0) (c .if1 .left)) (c .before .before .before .before .before .pre .0) refl
+fetch-requires c κs =
+    let args′ = c .before .before .before .before .before .args in
+    let pre′ = c .before .before .before .before .before .pre in
+    let locate′ = c .before .before .locate in
+    half-fits (now (args′ .map)) (args′ .pc) (pre′ .1) (at-place (locate′ .result) (locate′ .ensures .0) (c .if1 .left)) (pre′ .0) refl
 
--- src/exec.rt:198:9
 unfetched-requires-2 : tie.Need-unfetched-requires-2
 unfetched-requires-2 c κs = search needs
 
--- src/exec.rt:198:9
 returns-2 : tie.Need-returns-2
 unfolding instruction
-returns-2 c = let e0 = at-place (c .before .before .before .before .before .locate .result) (c .before .before .before .before .before .locate .ensures .0) (c .before .before .before .if1 .left) in (
-  undecoded (c .unfetched2 .ensures .2),
-  λ o cs e. not-fetched (c .unfetched2 .result) _ o (c .unfetched2 .ensures .0) (c .unfetched2 .ensures .1 ∙ sym e) refl
-      (fetch-secret (now (c .before .before .before .before .before .before .before .before .args .map)) (c .before .before .before .before .before .before .before .before .args .pc) (c .before .before .before .before .before .before .before .before .pre .1) e0 o cs _ e _ refl (c .before .before .fetch .ensures) (c .before .if2 .taken)),
-)
+returns-2 c =
+    let args′ = c .before .before .before .before .before .before .before .before .args in
+    let pre′ = c .before .before .before .before .before .before .before .before .pre in
+    let locate′ = c .before .before .before .before .before .locate in
+    let if1′ = c .before .before .before .if1 in
+    let fetch′ = c .before .before .fetch in
+    let e0 = at-place (locate′ .result) (locate′ .ensures .0) (if1′ .left) in (
+      undecoded (c .unfetched2 .ensures .2),
+      λ o cs e. not-fetched (c .unfetched2 .result) _ o (c .unfetched2 .ensures .0) (c .unfetched2 .ensures .1 ∙ sym e) refl
+          (fetch-secret (now (args′ .map)) (args′ .pc) (pre′ .1) e0 o cs _ e _ refl (fetch′ .ensures) (c .before .if2 .taken)),
+    )
 
--- src/exec.rt:200:17
 cast-first : tie.Need-cast-first
-cast-first c = omega (arith, half-small (now (c .before .before .before .before .before .before .before .before .args .mem)) (now (c .before .before .before .before .before .before .before .before .args .marks)) (c .before .before .before .before .before .locate .result .at) (λ i. omega (arith, c .before .before .before .before .before .before .before .shared-slice-known .given i)) (c .before .before .fetch .ensures))
+cast-first c =
+    let args′ = c .before .before .before .before .before .before .before .before .args in
+    let shared-slice-known′ = c .before .before .before .before .before .before .before .shared-slice-known in
+    let locate′ = c .before .before .before .before .before .locate in
+    let fetch′ = c .before .before .fetch in
+    omega (arith, half-small (now (args′ .mem)) (now (args′ .marks)) (locate′ .result .at) (λ i. omega (arith, shared-slice-known′ .given i)) (fetch′ .ensures))
 
--- src/exec.rt:201:8
 is-long-requires : tie.Need-is-long-requires
 is-long-requires c κs = search needs
 
--- src/exec.rt:202:9
 fetch-second-requires : tie.Need-fetch-second-requires
-fetch-second-requires c κs = (c .before .before .before .before .before .before .before .before .before .before .pre .0, c .before .before .before .before .before .before .before .before .before .before .pre .1, sym (c .before .is-long .ensures) ∙ c .if3 .taken, c .before .before .before .before .before .before .before .locate .ensures .1)
+fetch-second-requires c κs =
+    let pre′ = c .before .before .before .before .before .before .before .before .before .before .pre in
+    let locate′ = c .before .before .before .before .before .before .before .locate in
+    (pre′ .0, pre′ .1, sym (c .before .is-long .ensures) ∙ c .if3 .taken, locate′ .ensures .1)
 
--- src/exec.rt:202:9
 returns-3 : tie.Need-returns-3
-returns-3 c = let e0 = at-place (c .before .before .before .before .before .before .before .before .locate .result) (c .before .before .before .before .before .before .before .before .locate .ensures .0) (c .before .before .before .before .before .before .if1 .left) in (
-  c .fetch-second .ensures .0,
-  λ o cs e. instruction-long (now (c .before .before .before .before .before .before .before .before .before .before .before .args .map)) (c .before .before .before .before .before .before .before .before .before .before .before .args .pc) (c .before .before .before .before .before .before .before .before .before .before .before .pre .1) e0 o cs _ e refl (c .before .before .before .before .before .fetch .ensures) (c .before .before .before .before .if2 .left)
-      (sym (c .before .before .is-long .ensures) ∙ c .before .if3 .taken) refl (c .fetch-second .ensures .1 o cs e),
-)
+returns-3 c =
+    let args′ = c .before .before .before .before .before .before .before .before .before .before .before .args in
+    let pre′ = c .before .before .before .before .before .before .before .before .before .before .before .pre in
+    let locate′ = c .before .before .before .before .before .before .before .before .locate in
+    let if1′ = c .before .before .before .before .before .before .if1 in
+    let fetch′ = c .before .before .before .before .before .fetch in
+    let if2′ = c .before .before .before .before .if2 in
+    let is-long′ = c .before .before .is-long in
+    let e0 = at-place (locate′ .result) (locate′ .ensures .0) (if1′ .left) in (
+      c .fetch-second .ensures .0,
+      λ o cs e. instruction-long (now (args′ .map)) (args′ .pc) (pre′ .1) e0 o cs _ e refl (fetch′ .ensures) (if2′ .left)
+          (sym (is-long′ .ensures) ∙ c .before .if3 .taken) refl (c .fetch-second .ensures .1 o cs e),
+    )
 
--- src/exec.rt:207:18
 one-requires : tie.Need-one-requires
 one-requires c κs = sym (c .before .is-long .ensures) ∙ c .if3 .left
 
--- src/exec.rt:188:1
 returns-4 : tie.Need-returns-4
-returns-4 c = let e0 = at-place (c .before .before .before .before .before .before .before .before .locate .result) (c .before .before .before .before .before .before .before .before .locate .ensures .0) (c .before .before .before .before .before .before .if1 .left) in
-    let small = half-small (now (c .before .before .before .before .before .before .before .before .before .before .before .args .mem)) (now (c .before .before .before .before .before .before .before .before .before .before .before .args .marks)) (c .before .before .before .before .before .before .before .before .locate .result .at) (λ i. omega (arith, c .before .before .before .before .before .before .before .before .before .before .shared-slice-known .given i)) (c .before .before .before .before .before .fetch .ensures) in (
+returns-4 c =
+    let args′ = c .before .before .before .before .before .before .before .before .before .before .before .args in
+    let pre′ = c .before .before .before .before .before .before .before .before .before .before .before .pre in
+    let shared-slice-known′ = c .before .before .before .before .before .before .before .before .before .before .shared-slice-known in
+    let locate′ = c .before .before .before .before .before .before .before .before .locate in
+    let if1′ = c .before .before .before .before .before .before .if1 in
+    let fetch′ = c .before .before .before .before .before .fetch in
+    let if2′ = c .before .before .before .before .if2 in
+    let is-long′ = c .before .before .is-long in
+    let e0 = at-place (locate′ .result) (locate′ .ensures .0) (if1′ .left) in
+    let small = half-small (now (args′ .mem)) (now (args′ .marks)) (locate′ .result .at) (λ i. omega (arith, shared-slice-known′ .given i)) (fetch′ .ensures) in (
       rw (c .one .ensures 0) (decoded-fields _ 0 small (omega arith)),
-      λ o cs e. instruction-short (now (c .before .before .before .before .before .before .before .before .before .before .before .args .map)) (c .before .before .before .before .before .before .before .before .before .before .before .args .pc) (c .before .before .before .before .before .before .before .before .before .before .before .pre .1) e0 o cs _ e refl (c .before .before .before .before .before .fetch .ensures) (c .before .before .before .before .if2 .left)
-          (sym (c .before .before .is-long .ensures) ∙ c .before .if3 .left) (rw (c .one .ensures 0)),
+      λ o cs e. instruction-short (now (args′ .map)) (args′ .pc) (pre′ .1) e0 o cs _ e refl (fetch′ .ensures) (if2′ .left)
+          (sym (is-long′ .ensures) ∙ c .before .if3 .left) (rw (c .one .ensures 0)),
     )
 
 pub fetch-spec : {M : Type 1} → statement M

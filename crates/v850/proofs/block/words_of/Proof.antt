@@ -1,8 +1,9 @@
+-- The registers one by one, the eleven words behind them, and the map.
 use mathlib.Core.Path.{refl, _∙_}
 use native.Mathlib.Omega.{arith}
-use Prim.Native.Nat.{_+_, _-_, _≤_}
+use Prim.Native.Nat.{_-_}
 use lib.ListN.{take, length-set}
-use Rattle.v850.proofs.Fill.{Filled, filled-none, filled-next, filled-part, take-more, eleven-stored, Mapped, mapped-none, mapped-next, mapped-all}
+use Rattle.v850.proofs.Fill.{Filled, filled-none, filled-next, filled-part, take-more, eleven-stored}
 use borrow.Author.Needs.{needs}
 use Rattle.v850.specs.BlockLaws.{formed-marks}
 use Rattle.v850.proofs.block.words_of.Statement.{statement}
@@ -36,7 +37,11 @@ loop-less : tie.Need-loop-less Inv-loop μ-loop
 loop-less c = search needs
 
 loop-again : tie.Need-loop-again Inv-loop μ-loop
-loop-again c = filled-next (λ n. take n (c .before .before .before .args .cells .now)) 59 32 (c .before .before .loop .i) _ _ (c .before .before .loop .ws) (omega arith) (omega arith) (take-more (c .before .before .before .args .cells .now) (c .before .before .loop .i) (omega (arith, c .before .before .before .pre .0 .nums))) refl (c .before .before .loop .inv)
+loop-again c =
+    let args′ = c .before .before .before .args in
+    let pre′ = c .before .before .before .pre in
+    let loop′ = c .before .before .loop in
+    filled-next (λ n. take n (args′ .cells .now)) 59 32 (loop′ .i) _ _ (loop′ .ws) (omega arith) (omega arith) (take-more (args′ .cells .now) (loop′ .i) (omega (arith, pre′ .0 .nums))) refl (loop′ .inv)
 
 array-write-ws-2 : tie.Need-array-write-ws-2 Inv-loop μ-loop
 array-write-ws-2 c = search needs
@@ -87,22 +92,36 @@ array-write-ws-10 : tie.Need-array-write-ws-10 Inv-loop μ-loop
 array-write-ws-10 c = search needs
 
 reg-marks-requires : tie.Need-reg-marks-requires Inv-loop μ-loop
-reg-marks-requires c κs = formed-marks (c .before .before .before .before .before .before .before .before .before .pre .0)
+reg-marks-requires c κs =
+    let pre′ = c .before .before .before .before .before .before .before .before .before .pre in
+    formed-marks (pre′ .0)
 
 array-write-ws-11 : tie.Need-array-write-ws-11 Inv-loop μ-loop
 array-write-ws-11 c = search needs
 
 sys-marks-requires : tie.Need-sys-marks-requires Inv-loop μ-loop
-sys-marks-requires c κs = formed-marks (c .before .before .before .before .before .before .before .before .before .before .pre .0)
+sys-marks-requires c κs =
+    let pre′ = c .before .before .before .before .before .before .before .before .before .before .pre in
+    formed-marks (pre′ .0)
 
 array-write-ws-12 : tie.Need-array-write-ws-12 Inv-loop μ-loop
 array-write-ws-12 c = search needs
 
 put-map-requires : tie.Need-put-map-requires Inv-loop μ-loop
-put-map-requires c κs = (simp length-set (c .before .before .before .before .before .before .before .before .before .before .before .loop .inv .long), c .before .before .before .before .before .before .before .before .before .before .before .before .pre .1)
+put-map-requires c κs =
+    let pre′ = c .before .before .before .before .before .before .before .before .before .before .before .before .pre in
+    let loop′ = c .before .before .before .before .before .before .before .before .before .before .before .loop in
+    (simp length-set (loop′ .inv .long), pre′ .1)
 
 returns : tie.Need-returns Inv-loop μ-loop
-returns c = c .put-map .ensures ∙ eleven-stored (c .before .before .before .before .before .before .before .before .before .before .before .before .loop .ws) _ (c .before .before .before .before .before .before .before .before .before .before .before .before .before .args .map .now) _ _ _ _ _ _ _ _ _ _ _ _ _ _ (c .before .before .before .before .before .before .before .before .before .before .before .before .loop .inv .long) (filled-part (λ n. take n (c .before .before .before .before .before .before .before .before .before .before .before .before .before .args .cells .now)) 59 32 (c .before .before .before .before .before .before .before .before .before .before .before .before .loop .i) (c .before .before .before .before .before .before .before .before .before .before .before .before .loop .ws) (c .before .before .before .before .before .before .before .before .before .before .before .loop-test .left) (c .before .before .before .before .before .before .before .before .before .before .before .before .loop .inv)) (c .before .before .before .before .before .before .before .before .before .before .psw .ensures (c .before .before .before .before .before .before .before .before .before .before .before .before .before .args .tags .now)) (c .before .before .before .reg-marks .ensures) (c .before .before .sys-marks .ensures)
+returns c =
+    let args′ = c .before .before .before .before .before .before .before .before .before .before .before .before .before .args in
+    let loop′ = c .before .before .before .before .before .before .before .before .before .before .before .before .loop in
+    let loop-test′ = c .before .before .before .before .before .before .before .before .before .before .before .loop-test in
+    let psw′ = c .before .before .before .before .before .before .before .before .before .before .psw in
+    let reg-marks′ = c .before .before .before .reg-marks in
+    let sys-marks′ = c .before .before .sys-marks in
+    c .put-map .ensures ∙ eleven-stored (loop′ .ws) _ (args′ .map .now) _ _ _ _ _ _ _ _ _ _ _ _ _ _ (loop′ .inv .long) (filled-part (λ n. take n (args′ .cells .now)) 59 32 (loop′ .i) (loop′ .ws) (loop-test′ .left) (loop′ .inv)) (psw′ .ensures (args′ .tags .now)) (reg-marks′ .ensures) (sys-marks′ .ensures)
 
 pub words-of-spec : {M : Type 1} → statement M
 words-of-spec =
