@@ -3,7 +3,7 @@
 use mathlib.Core.Path.{_≡_, refl}
 use mathlib.Core.Bool.{Bool, true, false, cond, _&&_}
 use mathlib.Core.List.{List, [], _∷_}
-use Prim.Native.Nat.{ℕ, zero, suc, _+_, _-_, _*_, _/_, _%_, _^_, _≤_, _<_}
+use Prim.Native.Nat.{ℕ, zero, suc, _+_, _*_, _/_, _%_, _^_, _≤_, _<_}
 use native.Mathlib.Nat.{zero-add}
 use native.Mathlib.Omega.{arith}
 use borrow.Author.Tests.{le-leb, lt-leb, eq-eqb, ne-eqb}
@@ -55,10 +55,7 @@ module _ (reg2 reg1 w : ℕ) where
   at-imm5 Shl5 k e = rw (k, e)
   at-imm5 Mulh5 k e = rw (k, e)
 
-  -- by the low four bits of the opcode, as the forms with a second halfword are told apart
-  pub at-imm16 :
-      (op : Imm16Op) {low n : ℕ} → low ≡ imm16Code op - 0b110000 → n ≡ imm16 op w →
-      Valid (Imm16 op n reg1 reg2) ≡ At (0b110000 + low)
+  pub at-imm16 : (op : Imm16Op) {opcode n : ℕ} → opcode ≡ imm16Code op → n ≡ imm16 op w → Valid (Imm16 op n reg1 reg2) ≡ At opcode
   unfolding decodeFields imm16Op imm16Code
   at-imm16 Addi k e = rw (k, e)
   at-imm16 Movea k e = rw (k, e)

@@ -1,7 +1,7 @@
 // From halfwords to instructions.
 ghost use mathlib.Core.Path.{_≡_};
 ghost use mathlib.Core.Bool.{true, false};
-ghost use Prim.Native.Nat.{ℕ, _+_, _%_, _≤_, _<_};
+ghost use Prim.Native.Nat.{ℕ, _%_, _≤_, _<_};
 ghost use lib.Dec.{eqb};
 ghost use Rattle.insn.specs.Coding.{long, bitOp, loads, when, disp7, disp9, disp22, decodeExtended, decodeFields, decode};
 use crate::BitOp;
@@ -25,10 +25,10 @@ pub fn is_long(first: u16) -> bool
 pub fn decode(first: u16, second: u16) -> Decoded
     ensures { λ r. ⌜ r ≡ decode first second ⌝ }
 {
-    if is_long(first) {
-        return two(first, second);
+    match first / 32 % 64 {
+        0b000000..=0b101111 => one(first),
+        _ => two(first, second),
     }
-    one(first)
 }
 
 // A short form: opcodes up to 101111.
@@ -40,13 +40,14 @@ pub fn one(first: u16) -> Decoded
     short(h / 2048, h / 32 % 64, h % 32)
 }
 
-// A form with a second halfword: opcodes from 110000 on, told apart by their low four bits.
+// A form with a second halfword: opcodes from 110000 on. Put together so, the opcode lets the compiler jump without asking for its
+// range.
 pub fn two(first: u16, second: u16) -> Decoded
     requires { ⌜ long first ≡ true ⌝ }
     ensures { λ r. ⌜ r ≡ decode first second ⌝ }
 {
     let h = first as u32;
-    long(h / 2048, h / 32 % 16, h % 32, second as u32)
+    long(h / 2048, 0b110000 + h / 32 % 16, h % 32, second as u32)
 }
 
 // By the opcode. Parting the short forms so lets the compiler follow each opcode to its work by one jump.
@@ -128,59 +129,59 @@ fn transfer(reg2: u32, opcode: u32, reg1: u32) -> Decoded
     }
 }
 
-// 110000-111111: the forms with a second halfword, by the low four bits of the opcode.
-fn long(reg2: u32, low: u32, reg1: u32, w: u32) -> Decoded
-    requires { ⌜ (reg2 < 32) × (low < 16) × (reg1 < 32) × (w < 65536) ⌝ }
-    ensures { λ r. ⌜ r ≡ decodeFields reg2 (0b110000 + low) reg1 w ⌝ }
+// 110000-111111: the forms with a second halfword.
+fn long(reg2: u32, opcode: u32, reg1: u32, w: u32) -> Decoded
+    requires { ⌜ (reg2 < 32) × (0b110000 ≤ opcode) × (opcode < 64) × (reg1 < 32) × (w < 65536) ⌝ }
+    ensures { λ r. ⌜ r ≡ decodeFields reg2 opcode reg1 w ⌝ }
 {
-    match low {
-        0b0000 => imm16(Imm16Op::Addi, extend::sign16(w), reg1, reg2),
-        0b0001 => imm16(Imm16Op::Movea, extend::sign16(w), reg1, reg2),
-        0b0010 => imm16(Imm16Op::Movhi, extend::zero16(w), reg1, reg2),
-        0b0011 => imm16(Imm16Op::Satsubi, extend::sign16(w), reg1, reg2),
-        0b0100 => imm16(Imm16Op::Ori, extend::zero16(w), reg1, reg2),
-        0b0101 => imm16(Imm16Op::Xori, extend::zero16(w), reg1, reg2),
-        0b0110 => imm16(Imm16Op::Andi, extend::zero16(w), reg1, reg2),
-        0b0111 => imm16(Imm16Op::Mulhi, extend::sign16(w), reg1, reg2),
-        0b1000 => ld(Size::Byte, extend::sign16(w), reg1, reg2),
-        0b1001 => {
+    match opcode {
+        0b110000 => imm16(Imm16Op::Addi, extend::sign16(w), reg1, reg2),
+        0b110001 => imm16(Imm16Op::Movea, extend::sign16(w), reg1, reg2),
+        0b110010 => imm16(Imm16Op::Movhi, extend::zero16(w), reg1, reg2),
+        0b110011 => imm16(Imm16Op::Satsubi, extend::sign16(w), reg1, reg2),
+        0b110100 => imm16(Imm16Op::Ori, extend::zero16(w), reg1, reg2),
+        0b110101 => imm16(Imm16Op::Xori, extend::zero16(w), reg1, reg2),
+        0b110110 => imm16(Imm16Op::Andi, extend::zero16(w), reg1, reg2),
+        0b110111 => imm16(Imm16Op::Mulhi, extend::sign16(w), reg1, reg2),
+        0b111000 => ld(Size::Byte, extend::sign16(w), reg1, reg2),
+        0b111001 => {
             if w % 2 == 0 {
                 ld(Size::Half, extend::sign16(w), reg1, reg2)
             } else {
                 ld(Size::Word, extend::sign16(w - 1), reg1, reg2)
             }
         }
-        0b1010 => st(Size::Byte, extend::sign16(w), reg1, reg2),
-        0b1011 => {
+        0b111010 => st(Size::Byte, extend::sign16(w), reg1, reg2),
+        0b111011 => {
             if w % 2 == 0 {
                 st(Size::Half, extend::sign16(w), reg1, reg2)
             } else {
                 st(Size::Word, extend::sign16(w - 1), reg1, reg2)
             }
         }
-        0b1100 => jarl(reg2, low, reg1, w),
-        0b1101 => jarl(reg2, low, reg1, w),
-        0b1110 => Decoded::Valid(Insn::Bit {
+        0b111100 => jarl(reg2, opcode, reg1, w),
+        0b111101 => jarl(reg2, opcode, reg1, w),
+        0b111110 => Decoded::Valid(Insn::Bit {
             op: bit_op(reg2 / 8),
             bit: reg2 % 8,
             disp: extend::sign16(w),
             reg1,
         }),
-        0b1111 => extended(reg2, reg1, w),
+        0b111111 => extended(reg2, reg1, w),
         // no opcode is left
         _ => Decoded::Undefined,
     }
 }
 
 // JARL has an even displacement.
-fn jarl(reg2: u32, low: u32, reg1: u32, w: u32) -> Decoded
+fn jarl(reg2: u32, opcode: u32, reg1: u32, w: u32) -> Decoded
     requires { ⌜ (reg1 < 32) × (w < 65536) ⌝ }
-    ensures { λ r. ⌜ r ≡ when (eqb (w % 2) 0) (Insn.Jarl (disp22 low reg1 w) reg2) ⌝ }
+    ensures { λ r. ⌜ r ≡ when (eqb (w % 2) 0) (Insn.Jarl (disp22 opcode reg1 w) reg2) ⌝ }
 {
     when(
         w % 2 == 0,
         Insn::Jarl {
-            disp: disp22(low, reg1, w),
+            disp: disp22(opcode, reg1, w),
             reg2,
         },
     )

@@ -1,6 +1,5 @@
 -- From 110000, by the low four bits of the opcode: each arm is the law in `Arms`, or computes; none is left for the last one.
 use mathlib.Core.Path.{_∙_}
-use Prim.Native.Nat.{zero-le}
 use native.Mathlib.Omega.{arith}
 use borrow.Author.Tests.{eq-eqb, ne-eqb}
 use borrow.Author.Needs.{needs}
@@ -201,7 +200,7 @@ unfolding decodeFields
 returns-18 c = rw (c .before .match .keys16) (c .extended .ensures)
 
 returns-19 : tie.Need-returns-19
-returns-19 c = absurd (omega (arith, past _ 0 16 (c .match .rest) zero-le, c .before .pre .1))
+returns-19 c = absurd (omega (arith, past _ 48 16 (c .match .rest) (c .before .pre .1), c .before .pre .2))
 
 pub long-spec : {M : Type 1} → statement M
 long-spec =

@@ -11,6 +11,9 @@ use Rattle.insn.proofs.decode.two.Tie as tie
 low-four : (n : ℕ) → 0b110000 ≤ n % 64 → 0b110000 + n % 16 ≡ n % 64
 low-four n h = omega arith
 
+add-long : tie.Need-add-long
+add-long c = search needs
+
 long-requires : tie.Need-long-requires
 long-requires c κs = search needs
 
@@ -19,4 +22,4 @@ unfolding decode
 returns c = rw (low-four _ (leb-true _ _ (c .before .pre))) at (c .long .ensures)
 
 pub two-spec : {M : Type 1} → statement M
-two-spec = tie.close (tie.spec long-requires returns)
+two-spec = tie.close (tie.spec add-long long-requires returns)
