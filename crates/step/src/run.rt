@@ -15,6 +15,28 @@ use machine::Open;
 use machine::Ran;
 use state::regions;
 
+fn reached(answer: Answer, place: u32, steps: u32, o: Packed) -> Reached
+    ensures { λ r. ⌜ r ≡ record { answer = answer; place = place; steps = steps; core = o } ⌝ }
+{
+    Reached {
+        answer: answer,
+        place: place,
+        steps: steps,
+        core: o,
+    }
+}
+
+fn ended(answer: Answer, place: u32, steps: u32, o: Packed) -> Ran
+    ensures { λ r. ⌜ r ≡ record { answer = answer; place = place; steps = steps; core = openOf o } ⌝ }
+{
+    Ran {
+        answer: answer,
+        place: place,
+        steps: steps,
+        core: core::unpack(o),
+    }
+}
+
 // Instructions one after the other, from step `from` on. After a calm one nothing can have come up, so that none asks before the next;
 // the first one that is not calm is the last here.
 fn instructions(
@@ -36,12 +58,7 @@ fn instructions(
     let mut calm = true;
     while calm {
         if n == budget {
-            return Reached {
-                answer: Answer::Done,
-                place: 0,
-                steps: n,
-                core: o,
-            };
+            return reached(Answer::Done, 0, n, o);
         }
         let w = exec::instruction(map, sizes, o, cells, tags, mem, marks);
         let answer = w.answer;
@@ -51,20 +68,10 @@ fn instructions(
                 o = core::after(o, w);
                 n += 1;
             }
-            _ => return Reached {
-                answer: answer,
-                place: w.place,
-                steps: n,
-                core: o,
-            },
+            _ => return reached(answer, w.place, n, o),
         }
     }
-    Reached {
-        answer: Answer::Done,
-        place: 0,
-        steps: n,
-        core: o,
-    }
+    reached(Answer::Done, 0, n, o)
 }
 
 pub fn run(
@@ -91,12 +98,7 @@ pub fn run(
                     o = core::after(o, w);
                     n += 1;
                 }
-                _ => return Ran {
-                    answer: answer,
-                    place: w.place,
-                    steps: n,
-                    core: core::unpack(o),
-                },
+                _ => return ended(answer, w.place, n, o),
             }
         } else {
             let r = instructions(budget, n, map, &sizes, o, cells, tags, mem, marks);
@@ -105,19 +107,9 @@ pub fn run(
             let answer = r.answer;
             match answer {
                 Answer::Done => {}
-                _ => return Ran {
-                    answer: answer,
-                    place: r.place,
-                    steps: n,
-                    core: core::unpack(o),
-                },
+                _ => return ended(answer, r.place, n, o),
             }
         }
     }
-    Ran {
-        answer: Answer::Done,
-        place: 0,
-        steps: n,
-        core: core::unpack(o),
-    }
+    ended(Answer::Done, 0, n, o)
 }

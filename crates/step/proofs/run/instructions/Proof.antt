@@ -38,15 +38,18 @@ loop-holds c = let pre′ = c .before .before .pre in (
   },
 )
 
+reached-requires : tie.Need-reached-requires Inv-loop μ-loop
+reached-requires c κs = search needs
+
 same-length : tie.Need-same-length Inv-loop μ-loop
-same-length c = c .before .before .loop .inv .3 .mem
+same-length c = c .before .before .before .loop .inv .3 .mem
 
 same-length-2 : tie.Need-same-length-2 Inv-loop μ-loop
-same-length-2 c = c .before .before .loop .inv .3 .marks
+same-length-2 c = c .before .before .before .loop .inv .3 .marks
 
 returns : tie.Need-returns Inv-loop μ-loop
-returns c = let going = c .before .before .loop .inv .3 in
-    (going .ends, λ t. (omega arith, omega arith, going .formed, going .bytes))
+returns c = let going = c .before .before .before .loop .inv .3 in
+    rw (c .reached .ensures) (going .ends, λ t. (omega arith, omega arith, going .formed, going .bytes))
 
 instruction-requires : tie.Need-instruction-requires Inv-loop μ-loop
 instruction-requires c κs = let going = c .before .before .before .before .before .before .loop .inv .3 in
@@ -80,34 +83,41 @@ loop-again c = let args′ = c .before .before .before .before .before .before .
           (ap goesOn (c .before .enum-told .given .1)) (kept .0) (kept .1 .0) (c .after .result) (c .after .ensures),
     )
 
+reached-requires-2 : tie.Need-reached-requires-2 Inv-loop μ-loop
+reached-requires-2 c κs = search needs
+
 same-length-3 : tie.Need-same-length-3 Inv-loop μ-loop
-same-length-3 c = let loop′ = c .before .before .before .before .before .before .before .before .before .before .before .before .loop in
-    let instruction′ = c .before .before .before .before .before .instruction in
+same-length-3 c = let loop′ = c .before .before .before .before .before .before .before .before .before .before .before .before .before .loop in
+    let instruction′ = c .before .before .before .before .before .before .instruction in
     instruction′ .kept .1 .1 .1 .1 .1 .0 ∙ loop′ .inv .3 .mem
 
 same-length-4 : tie.Need-same-length-4 Inv-loop μ-loop
-same-length-4 c = let loop′ = c .before .before .before .before .before .before .before .before .before .before .before .before .loop in
-    let instruction′ = c .before .before .before .before .before .instruction in
+same-length-4 c = let loop′ = c .before .before .before .before .before .before .before .before .before .before .before .before .before .loop in
+    let instruction′ = c .before .before .before .before .before .before .instruction in
     instruction′ .kept .1 .1 .1 .1 .1 .1 .0 ∙ loop′ .inv .3 .marks
 
 returns-2 : tie.Need-returns-2 Inv-loop μ-loop
-returns-2 c = let args′ = c .before .before .before .before .before .before .before .before .before .before .before .before .before .before .before .args in
-    let loop′ = c .before .before .before .before .before .before .before .before .before .before .before .before .loop in
-    let loop-test′ = c .before .before .before .before .before .before .before .before .before .before .before .loop-test in
-    let instruction′ = c .before .before .before .before .before .instruction in
-    let t = stops (instruction′ .result .answer) (c .match .keys2) in
+returns-2 c = let args′ = c .before .before .before .before .before .before .before .before .before .before .before .before .before .before .before .before .args in
+    let loop′ = c .before .before .before .before .before .before .before .before .before .before .before .before .before .loop in
+    let loop-test′ = c .before .before .before .before .before .before .before .before .before .before .before .before .loop-test in
+    let if1′ = c .before .before .before .before .before .before .before .before .before .before .before .if1 in
+    let instruction′ = c .before .before .before .before .before .before .instruction in
+    let t = stops (instruction′ .result .answer) (c .before .match .keys2) in
     let e = step-instruction (now (args′ .map)) (openOf (loop′ .o)) _ _ (loop′ .inv .1 (loop-test′ .taken)) (instruction′ .ensures) in
-    (rw t (stopped (loop′ .o) (loop′ .inv .3) (omega (arith, loop′ .inv .3 .within)) (instruction′ .result) e t), λ u. absurd (true≢false (sym u ∙ t)))
+    rw (c .reached2 .ensures) (rw t (stopped (loop′ .o) (loop′ .inv .3) (omega (arith, loop′ .inv .3 .within, if1′ .left)) (instruction′ .result) e t), λ u. absurd (true≢false (sym u ∙ t)))
+
+reached-requires-3 : tie.Need-reached-requires-3 Inv-loop μ-loop
+reached-requires-3 c κs = search needs
 
 same-length-5 : tie.Need-same-length-5 Inv-loop μ-loop
-same-length-5 c = c .before .loop .inv .3 .mem
+same-length-5 c = c .before .before .loop .inv .3 .mem
 
 same-length-6 : tie.Need-same-length-6 Inv-loop μ-loop
-same-length-6 c = c .before .loop .inv .3 .marks
+same-length-6 c = c .before .before .loop .inv .3 .marks
 
 returns-3 : tie.Need-returns-3 Inv-loop μ-loop
-returns-3 c = let loop′ = c .before .loop in
-    (loop′ .inv .3 .ends, λ t. (loop′ .inv .2 (c .loop-test .left), loop′ .inv .3 .within, loop′ .inv .3 .formed, loop′ .inv .3 .bytes))
+returns-3 c = let loop′ = c .before .before .loop in
+    rw (c .reached3 .ensures) (loop′ .inv .3 .ends, λ t. (loop′ .inv .2 (c .before .loop-test .left), loop′ .inv .3 .within, loop′ .inv .3 .formed, loop′ .inv .3 .bytes))
 
 pub instructions-spec : {M : Type 1} → statement M
 instructions-spec =
@@ -116,6 +126,7 @@ instructions-spec =
     Inv-loop
     μ-loop
     loop-holds
+    reached-requires
     same-length
     same-length-2
     returns
@@ -125,9 +136,11 @@ instructions-spec =
     add-n
     loop-less
     loop-again
+    reached-requires-2
     same-length-3
     same-length-4
     returns-2
+    reached-requires-3
     same-length-5
     same-length-6
     returns-3)

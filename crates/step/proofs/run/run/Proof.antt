@@ -70,8 +70,8 @@ loop-again c = let args′ = c .before .before .before .before .before .before .
     goes-on (loop′ .o) (loop′ .inv) (omega arith) (attend′ .result) (attend′ .ensures (now (args′ .map)) (both (loop′ .mem) (loop′ .marks)))
     (ap goesOn (c .before .enum-told .given .1)) refl refl (c .after .result) (c .after .ensures)
 
-unpack-requires : tie.Need-unpack-requires Inv-loop μ-loop
-unpack-requires c κs = search needs
+ended-requires : tie.Need-ended-requires Inv-loop μ-loop
+ended-requires c κs = search needs
 
 same-length : tie.Need-same-length Inv-loop μ-loop
 same-length c = c .before .before .before .before .before .before .before .before .loop .inv .mem
@@ -84,7 +84,7 @@ returns c = let args′ = c .before .before .before .before .before .before .bef
     let pack′ = c .before .before .before .before .before .before .before .before .before .pack in
     let loop′ = c .before .before .before .before .before .before .before .before .loop in
     let attend′ = c .before .before .attend in
-    rw (c .unpack .ensures .0)
+    rw (c .ended .ensures)
     (stopped (loop′ .o) (loop′ .inv) (omega arith) (attend′ .result) (attend′ .ensures (now (args′ .map)) (both (loop′ .mem) (loop′ .marks)))
     (stops (attend′ .result .answer) (c .before .match .keys2)) ∙ rw (pack′ .ensures))
 
@@ -118,8 +118,8 @@ loop-again-2 c = let loop′ = c .before .before .before .before .before .before
       ends = (rw t at (instructions′ .ensures .0)) ∙ loop′ .inv .ends;
     }
 
-unpack-requires-2 : tie.Need-unpack-requires-2 Inv-loop μ-loop
-unpack-requires-2 c κs = search needs
+ended-requires-2 : tie.Need-ended-requires-2 Inv-loop μ-loop
+ended-requires-2 c κs = search needs
 
 same-length-3 : tie.Need-same-length-3 Inv-loop μ-loop
 same-length-3 c = let loop′ = c .before .before .before .before .before .before .before .before .before .before .before .before .before .before .before .before .loop in
@@ -136,10 +136,10 @@ returns-2 c = let pack′ = c .before .before .before .before .before .before .b
     let loop′ = c .before .before .before .before .before .before .before .before .before .before .before .before .before .before .before .before .loop in
     let instructions′ = c .before .before .before .before .before .before .before .instructions in
     let t = stops (instructions′ .result .answer) (c .before .match2 .keys2) in
-    rw (c .unpack2 .ensures .0) ((rw t at (instructions′ .ensures .0)) ∙ loop′ .inv .ends ∙ rw (pack′ .ensures))
+    rw (c .ended2 .ensures) ((rw t at (instructions′ .ensures .0)) ∙ loop′ .inv .ends ∙ rw (pack′ .ensures))
 
-unpack-requires-3 : tie.Need-unpack-requires-3 Inv-loop μ-loop
-unpack-requires-3 c κs = search needs
+ended-requires-3 : tie.Need-ended-requires-3 Inv-loop μ-loop
+ended-requires-3 c κs = search needs
 
 same-length-5 : tie.Need-same-length-5 Inv-loop μ-loop
 same-length-5 c = c .before .before .loop .inv .mem
@@ -150,7 +150,7 @@ same-length-6 c = c .before .before .loop .inv .marks
 returns-3 : tie.Need-returns-3 Inv-loop μ-loop
 returns-3 c = let pack′ = c .before .before .before .pack in
     let loop′ = c .before .before .loop in
-    rw (c .unpack3 .ensures .0) (all-done (loop′ .o) (loop′ .inv) (omega arith) ∙ rw (pack′ .ensures))
+    rw (c .ended3 .ensures) (all-done (loop′ .o) (loop′ .inv) (omega arith) ∙ rw (pack′ .ensures))
 
 pub run-spec : {M : Type 1} → statement M
 run-spec =
@@ -168,7 +168,7 @@ run-spec =
     add-n
     loop-less
     loop-again
-    unpack-requires
+    ended-requires
     same-length
     same-length-2
     returns
@@ -176,11 +176,11 @@ run-spec =
     enum-told-2
     loop-less-2
     loop-again-2
-    unpack-requires-2
+    ended-requires-2
     same-length-3
     same-length-4
     returns-2
-    unpack-requires-3
+    ended-requires-3
     same-length-5
     same-length-6
     returns-3)
