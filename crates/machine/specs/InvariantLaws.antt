@@ -39,7 +39,7 @@ use Rattle.machine.specs.Memory.{bytesAt, littleEndian, extended, byteOf
 use Rattle.machine.specs.Operations.{operation, second, operate}
 use Rattle.machine.specs.Step.{Outcome, next, refuse, goto, plus, modes, cause, waits, fecc, eicc, reveal, onSpot, place, savePc, savePsw, step}
 use Rattle.machine.specs.Run.{Ended, ended, onWent, carry, run}
-use Rattle.machine.specs.WellFormed.{limit, markLimit, goodCode, Bytes}
+use Rattle.machine.specs.WellFormed.{limit, markLimit, goodCode, Bytes, GoodCells, GoodOpen}
 
 -- What holds of every number of a list holds of it with one number set, if it holds of that one
 pub set-holds : (P : ℕ → ℕ → Type 0) (l : List ℕ) (j x : ℕ) → ((i : ℕ) → P i (getD l i 0)) → P j x → (i : ℕ) → P i (getD (set l j x) i 0)
@@ -52,15 +52,6 @@ set-holds P (a ∷ l) (suc j) x h k (suc i) = set-holds (λ i. P (suc i)) l j x 
 -- a value that a register can hold
 abbrev pub IsWord : Tv → Type 0
 IsWord v = v .val < W
-
--- The cells of a well-formed state
-pub record GoodCells (c : Cells) : Type 0 where
-  pub nums : length (c .nums) ≡ 38
-  pub marks : length (c .marks) ≡ 38
-  pub r0 : getD (c .nums) 0 0 ≡ 0
-  pub r0-mark : getD (c .marks) 0 0 ≡ 0
-  pub small : (i : ℕ) → getD (c .nums) i 0 < limit i
-  pub small-marks : (i : ℕ) → getD (c .marks) i 0 < markLimit i
 
 pub mark-lt : (b : Bool) → markOf b < 2
 mark-lt true = omega arith
@@ -191,17 +182,6 @@ operate-good g op x y r h k =
     setFlags-good (cond-holds GoodCells (operation op .writes) (putReg-good g r _ (outcome-word op (x .val) (z .val) h l)) g) _ _ _
 
 -- What is never marked, in a well-formed state
-pub record GoodOpen (o : Open) : Type 0 where
-  pub pc-even : o .pc % 2 ≡ 0
-  pub pc-24 : o .pc < 2 ^ 24
-  pub np : o .np < 2
-  pub ep : o .ep < 2
-  pub id : o .id < 2
-  pub ecr : o .ecr < 2 ^ 32
-  pub code : goodCode (o .code) ≡ true
-  pub nmi : o .nmi < 2
-  pub halted : o .halted < 2
-
 module _ {o : Open} (g : GoodOpen o) where
   pub goto-good : (p : ℕ) → p % 2 ≡ 0 → p < 2 ^ 24 → GoodOpen (goto p o)
   goto-good p e h =

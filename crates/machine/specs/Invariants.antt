@@ -31,8 +31,8 @@ use Rattle.machine.specs.Psw.{EIPC, EIPSW, FEPC, FEPSW, ECR, PSW, sys, r
 use Rattle.machine.specs.Memory.{changed, tests}
 use Rattle.machine.specs.Step.{Outcome, next, plus, load, store, bitwise, jmp, jarl, bcond, ldsr, system, exception, trap, illegal, return, reti, exec, execute, fetch, instruction, nmiAccepted, codeAccepted, takeNmi, takeCode, step}
 use Rattle.machine.specs.Run.{run, resetOpen, resetCells}
-use Rattle.machine.specs.WellFormed.{limit, markLimit, WellFormed, Bytes}
-use Rattle.machine.specs.InvariantLaws.{IsWord, GoodCells, GoodOpen, reg-word, putReg-good, setZ-good, condition-word, psw-marks, Bank, ei, fe, saved-pc, putLow-good, putSpread-good, putPswFlags-good, saved-good, operate-good, goto-good, plus-good, modes-good, waits-good, fecc-good, eicc-good, code-target, edit-bytes, changed-byte, putBytes-bytes, half-lt, loaded-word, Ends, next-ends, refuse-ends, reveal-ends, place-ends, cond-ends, Kept, same, edit-kept, putBytes-kept, any-end, run-holds}
+use Rattle.machine.specs.WellFormed.{limit, markLimit, WellFormed, Bytes, GoodCells, GoodOpen}
+use Rattle.machine.specs.InvariantLaws.{IsWord, reg-word, putReg-good, setZ-good, condition-word, psw-marks, Bank, ei, fe, saved-pc, putLow-good, putSpread-good, putPswFlags-good, saved-good, operate-good, goto-good, plus-good, modes-good, waits-good, fecc-good, eicc-good, code-target, edit-bytes, changed-byte, putBytes-bytes, half-lt, loaded-word, Ends, next-ends, refuse-ends, reveal-ends, place-ends, cond-ends, Kept, same, edit-kept, putBytes-kept, any-end, run-holds}
 
 -- A step from the memory m that keeps the size and the marks of the memory n, with which a run began
 abbrev Keeps : Cells → Cells → Cells → Outcome → Type 0
@@ -98,53 +98,10 @@ run-keeps : (budget n : ℕ) (map : List ℕ) (o : Open) (c m : Cells) → Kept 
 run-keeps budget n map o c m =
     run-holds (λ o′ c′ m′. Kept m m′) map (λ o c m k. step-keeps map o c k) budget n o c m (same m)
 
--- A well-formed state, in the parts of which the laws speak
+-- A well-formed state and its memory
 record State (o : Open) (c m : Cells) : Type 0 where
-  core : GoodOpen o
-  cells : GoodCells c
+  formed : WellFormed o c
   bytes : Bytes m
-
-state : {o : Open} {c m : Cells} → WellFormed o c → Bytes m → State o c m
-state w b =
-    record {
-      core = record {
-        pc-even = w .pc-even;
-        pc-24 = w .pc-24;
-        np = w .np;
-        ep = w .ep;
-        id = w .id;
-        ecr = w .ecr;
-        code = w .code;
-        nmi = w .nmi;
-        halted = w .halted;
-      };
-      cells = record { nums = w .nums; marks = w .marks; r0 = w .r0; r0-mark = w .r0-mark; small = w .small; small-marks = w .small-marks };
-      bytes = b;
-    }
-
-well-formed : {o : Open} {c m : Cells} → State o c m → WellFormed o c × Bytes m
-well-formed s =
-    let w = s .core in
-    let g = s .cells in (
-      record {
-        nums = g .nums;
-        marks = g .marks;
-        r0 = g .r0;
-        r0-mark = g .r0-mark;
-        small = g .small;
-        small-marks = g .small-marks;
-        pc-even = w .pc-even;
-        pc-24 = w .pc-24;
-        np = w .np;
-        ep = w .ep;
-        id = w .id;
-        ecr = w .ecr;
-        code = w .code;
-        nmi = w .nmi;
-        halted = w .halted;
-      },
-      s .bytes,
-    )
 
 -- Operands in range. An immediate of at most 32 bits is a word
 immediate-word : (k : ℕ) → k ≤ 32 → (b : Bool) (n : ℕ) → T (cond b (isUnsigned k n) (isSigned k n)) → n < W
@@ -184,32 +141,31 @@ module _ (map : List ℕ) {o : Open} {c m : Cells} (s : State o c m) where
   Formed x = Ends State c m x
 
   on : {o′ : Open} {c′ : Cells} → GoodOpen o′ → GoodCells c′ → Formed (next o′ c′ m)
-  on w g = next-ends (record { core = w; cells = g; bytes = s .bytes })
+  on w g = next-ends (record { formed = record { core = w; cells = g }; bytes = s .bytes })
 
   ahead : (n : ℕ) → n % 2 ≡ 0 → GoodOpen (plus n o)
-  ahead n e = plus-good (s .core) n e
+  ahead n e = plus-good (s .formed .core) n e
 
   load-formed : (z : Size) (disp reg1 reg2 len : ℕ) → len % 2 ≡ 0 → Formed (load z disp reg1 reg2 len map o c m)
   unfolding load
   load-formed z disp reg1 reg2 len e =
       reveal-ends o _ _ (place-ends map _ _ _ _ λ p.
-      on (ahead len e) (putReg-good (s .cells) reg2 _ (loaded-word (s .bytes) p z)))
+      on (ahead len e) (putReg-good (s .formed .cells) reg2 _ (loaded-word (s .bytes) p z)))
 
   store-formed : (z : Size) (disp reg1 reg2 len : ℕ) → len % 2 ≡ 0 → Formed (store z disp reg1 reg2 len map o c m)
   unfolding store
   store-formed z disp reg1 reg2 len e =
       reveal-ends o _ _ (place-ends map _ _ _ _ λ p.
-      next-ends (record { core = ahead len e; cells = s .cells; bytes = putBytes-bytes (s .bytes) z p _ }))
+      next-ends (record { formed = record { core = ahead len e; cells = s .formed .cells }; bytes = putBytes-bytes (s .bytes) z p _ }))
 
   bitwise-formed : (op : BitOp) (n disp reg1 : ℕ) → n < 8 → Formed (bitwise op n disp reg1 map o c m)
   unfolding bitwise
   bitwise-formed op n disp reg1 h =
       reveal-ends o _ _ (place-ends map _ _ _ _ λ p.
-      cond-ends (tests op) (on (ahead 4 refl) (setZ-good (s .cells) _ _))
+      cond-ends (tests op) (on (ahead 4 refl) (setZ-good (s .formed .cells) _ _))
       (place-ends map _ _ _ _ λ q.
       next-ends (record {
-        core = ahead 4 refl;
-        cells = setZ-good (s .cells) _ _;
+        formed = record { core = ahead 4 refl; cells = setZ-good (s .formed .cells) _ _ };
         bytes = edit-bytes (s .bytes) p (changed op n) (λ x k. changed-byte op n x h k);
       })))
 
@@ -218,28 +174,28 @@ module _ (map : List ℕ) {o : Open} {c m : Cells} (s : State o c m) where
   ldsr-formed reg2 regid =
       let v = reg reg2 c in
       let w = v .val in
-      cond-ends (eqb regid EIPC) (on (ahead 4 refl) (putLow-good ei (s .cells) v))
-      (cond-ends (eqb regid EIPSW) (on (ahead 4 refl) (putSpread-good ei (s .cells) v))
-      (cond-ends (eqb regid FEPC) (on (ahead 4 refl) (putLow-good fe (s .cells) v))
-      (cond-ends (eqb regid FEPSW) (on (ahead 4 refl) (putSpread-good fe (s .cells) v))
+      cond-ends (eqb regid EIPC) (on (ahead 4 refl) (putLow-good ei (s .formed .cells) v))
+      (cond-ends (eqb regid EIPSW) (on (ahead 4 refl) (putSpread-good ei (s .formed .cells) v))
+      (cond-ends (eqb regid FEPC) (on (ahead 4 refl) (putLow-good fe (s .formed .cells) v))
+      (cond-ends (eqb regid FEPSW) (on (ahead 4 refl) (putSpread-good fe (s .formed .cells) v))
       (reveal-ends o v _ (on
-      (plus-good (modes-good (s .core) (w / 2 ^ 7 % 2) (w / 2 ^ 6 % 2) (w / 2 ^ 5 % 2) (omega arith) (omega arith) (omega arith)) 4 refl)
-      (putPswFlags-good (s .cells) (bits w 0)))))))
+      (plus-good (modes-good (s .formed .core) (w / 2 ^ 7 % 2) (w / 2 ^ 6 % 2) (w / 2 ^ 5 % 2) (omega arith) (omega arith) (omega arith)) 4 refl)
+      (putPswFlags-good (s .formed .cells) (bits w 0)))))))
 
   system-word : (regid : ℕ) → IsWord (system regid o c)
   unfolding system
   system-word regid =
-      cond-holds IsWord (eqb regid EIPC) (omega (arith, saved-pc ei (s .cells)))
+      cond-holds IsWord (eqb regid EIPC) (omega (arith, saved-pc ei (s .formed .cells)))
       (cond-holds IsWord (eqb regid EIPSW) (omega arith)
-      (cond-holds IsWord (eqb regid FEPC) (omega (arith, saved-pc fe (s .cells)))
+      (cond-holds IsWord (eqb regid FEPC) (omega (arith, saved-pc fe (s .formed .cells)))
       (cond-holds IsWord (eqb regid FEPSW) (omega arith)
-      (cond-holds IsWord (eqb regid ECR) (s .core .ecr) (omega arith)))))
+      (cond-holds IsWord (eqb regid ECR) (s .formed .core .ecr) (omega arith)))))
 
   exception-formed : (code target : ℕ) → code < 2 ^ 16 → target % 2 ≡ 0 → target < 2 ^ 24 → Formed (exception code target o c m)
   unfolding exception
   exception-formed code target h e l =
-      on (goto-good (eicc-good (modes-good (s .core) (o .np) 1 1 (s .core .np) (omega arith) (omega arith)) code h) target e l)
-      (saved-good ei (s .cells) o (sum24 (o .pc) 4) (omega arith))
+      on (goto-good (eicc-good (modes-good (s .formed .core) (o .np) 1 1 (s .formed .core .np) (omega arith) (omega arith)) code h) target e l)
+      (saved-good ei (s .formed .cells) o (sum24 (o .pc) 4) (omega arith))
 
   trap-formed : (vector : ℕ) → vector < 32 → Formed (trap vector o c m)
   unfolding trap
@@ -254,63 +210,63 @@ module _ (map : List ℕ) {o : Open} {c m : Cells} (s : State o c m) where
       let a = cell c (sys pc) .val in
       let b = mode (bitsAt (sys saved) c) .val in
       reveal-ends o _ _ (reveal-ends o _ _ (on
-      (goto-good (modes-good (s .core) (b / 2 ^ 2 % 2) (b / 2 % 2) (b % 2) (omega arith) (omega arith) (omega arith)) (a / 2 * 2)
-      (omega arith) (omega (arith, saved-pc k (s .cells))))
-      (putPswFlags-good (s .cells) (bitsAt (sys saved) c))))
+      (goto-good (modes-good (s .formed .core) (b / 2 ^ 2 % 2) (b / 2 % 2) (b % 2) (omega arith) (omega arith) (omega arith)) (a / 2 * 2)
+      (omega arith) (omega (arith, saved-pc k (s .formed .cells))))
+      (putPswFlags-good (s .formed .cells) (bitsAt (sys saved) c))))
 
   bcond-formed : (cc disp : ℕ) → disp % 2 ≡ 0 → Formed (bcond cc disp o c m)
   unfolding bcond
   bcond-formed cc disp e =
-      reveal-ends o (condition cc c) _ (on (cond-holds GoodOpen (eqb (condition cc c .val) 0) (ahead 2 refl) (ahead disp e)) (s .cells))
+      reveal-ends o (condition cc c) _ (on (cond-holds GoodOpen (eqb (condition cc c .val) 0) (ahead 2 refl) (ahead disp e)) (s .formed .cells))
 
   jmp-formed : (reg1 : ℕ) → Formed (jmp reg1 o c m)
   unfolding jmp
-  jmp-formed reg1 = reveal-ends o _ _ (on (goto-good (s .core) _ (omega arith) (omega arith)) (s .cells))
+  jmp-formed reg1 = reveal-ends o _ _ (on (goto-good (s .formed .core) _ (omega arith) (omega arith)) (s .formed .cells))
 
   jarl-formed : (disp reg2 : ℕ) → disp % 2 ≡ 0 → Formed (jarl disp reg2 o c m)
   unfolding jarl
-  jarl-formed disp reg2 e = on (ahead disp e) (putReg-good (s .cells) reg2 _ (omega arith))
+  jarl-formed disp reg2 e = on (ahead disp e) (putReg-good (s .formed .cells) reg2 _ (omega arith))
 
   word : (n : ℕ) → IsWord (reg n c)
-  word n = reg-word (s .cells) n
+  word n = reg-word (s .formed .cells) n
 
   exec-formed : (i : Insn) → T (inRange i) → Formed (exec i map o c m)
   unfolding exec inRange reti
   exec-formed (Jmp reg1) r = jmp-formed reg1
-  exec-formed (Reg op reg1 reg2) r = on (ahead 2 refl) (operate-good (s .cells) _ _ _ reg2 (word reg1) (word reg2))
-  exec-formed (Imm5 op imm reg2) r = on (ahead 2 refl) (operate-good (s .cells) _ _ _ reg2 (imm5-word op imm reg2 r) (word reg2))
+  exec-formed (Reg op reg1 reg2) r = on (ahead 2 refl) (operate-good (s .formed .cells) _ _ _ reg2 (word reg1) (word reg2))
+  exec-formed (Imm5 op imm reg2) r = on (ahead 2 refl) (operate-good (s .formed .cells) _ _ _ reg2 (imm5-word op imm reg2 r) (word reg2))
   exec-formed (Sld z disp reg2) r = load-formed z disp 30 reg2 2 refl
   exec-formed (Sst z disp reg2) r = store-formed z disp 30 reg2 2 refl
   exec-formed (Bcond cc disp) r = bcond-formed cc disp (bcond-even cc disp r)
-  exec-formed (Imm16 op imm reg1 reg2) r = on (ahead 4 refl) (operate-good (s .cells) _ _ _ reg2 (imm16-word op imm reg1 reg2 r) (word reg1))
+  exec-formed (Imm16 op imm reg1 reg2) r = on (ahead 4 refl) (operate-good (s .formed .cells) _ _ _ reg2 (imm16-word op imm reg1 reg2 r) (word reg1))
   exec-formed (Ld z disp reg1 reg2) r = load-formed z disp reg1 reg2 4 refl
   exec-formed (St z disp reg1 reg2) r = store-formed z disp reg1 reg2 4 refl
   exec-formed (Jarl disp reg2) r = jarl-formed disp reg2 (jarl-even disp reg2 r)
   exec-formed (Bit op n disp reg1) r = bitwise-formed op n disp reg1 (bit-number op n disp reg1 r)
-  exec-formed (Setf cc reg2) r = on (ahead 4 refl) (putReg-good (s .cells) reg2 _ (condition-word cc c))
+  exec-formed (Setf cc reg2) r = on (ahead 4 refl) (putReg-good (s .formed .cells) reg2 _ (condition-word cc c))
   exec-formed (Ldsr reg2 regid) r = ldsr-formed reg2 regid
-  exec-formed (Stsr regid reg2) r = on (ahead 4 refl) (putReg-good (s .cells) reg2 _ (system-word regid))
-  exec-formed (Shift op reg1 reg2) r = on (ahead 4 refl) (operate-good (s .cells) _ _ _ reg2 (word reg1) (word reg2))
+  exec-formed (Stsr regid reg2) r = on (ahead 4 refl) (putReg-good (s .formed .cells) reg2 _ (system-word regid))
+  exec-formed (Shift op reg1 reg2) r = on (ahead 4 refl) (operate-good (s .formed .cells) _ _ _ reg2 (word reg1) (word reg2))
   exec-formed (Trap vector) r = trap-formed vector (ltb→lt vector 32 r)
-  exec-formed Halt r = on (plus-good (waits-good (s .core) (o .code) (o .nmi) 1 (s .core .code) (s .core .nmi) (omega arith)) 4 refl) (s .cells)
+  exec-formed Halt r = on (plus-good (waits-good (s .formed .core) (o .code) (o .nmi) 1 (s .formed .core .code) (s .formed .core .nmi) (omega arith)) 4 refl) (s .formed .cells)
   exec-formed Reti r = cond-ends (eqb (o .ep) 0 && eqb (o .np) 1) (return-formed fe) (return-formed ei)
-  exec-formed Di r = on (plus-good (modes-good (s .core) (o .np) (o .ep) 1 (s .core .np) (s .core .ep) (omega arith)) 4 refl) (s .cells)
-  exec-formed Ei r = on (plus-good (modes-good (s .core) (o .np) (o .ep) 0 (s .core .np) (s .core .ep) (omega arith)) 4 refl) (s .cells)
+  exec-formed Di r = on (plus-good (modes-good (s .formed .core) (o .np) (o .ep) 1 (s .formed .core .np) (s .formed .core .ep) (omega arith)) 4 refl) (s .formed .cells)
+  exec-formed Ei r = on (plus-good (modes-good (s .formed .core) (o .np) (o .ep) 0 (s .formed .core .np) (s .formed .core .ep) (omega arith)) 4 refl) (s .formed .cells)
 
   takeNmi-formed : Formed (takeNmi o c m)
   unfolding takeNmi
   takeNmi-formed =
-      let w = waits-good (s .core) (o .code) 0 0 (s .core .code) (omega arith) (omega arith) in
+      let w = waits-good (s .formed .core) (o .code) 0 0 (s .formed .core .code) (omega arith) (omega arith) in
       on (goto-good (fecc-good (modes-good w 1 0 1 (omega arith) (omega arith) (omega arith)) 0x10 (omega arith)) 0x10 refl (omega arith))
-      (saved-good fe (s .cells) o (o .pc) (s .core .pc-24))
+      (saved-good fe (s .formed .cells) o (o .pc) (s .formed .core .pc-24))
 
   takeCode-formed : Formed (takeCode o c m)
   unfolding takeCode
   takeCode-formed =
-      let t = code-target (o .code) (s .core .code) in
-      let w = waits-good (s .core) 0 (o .nmi) 0 refl (s .core .nmi) (omega arith) in
-      on (goto-good (eicc-good (modes-good w (o .np) 0 1 (s .core .np) (omega arith) (omega arith)) (o .code) (t .1)) (o .code) (t .0) (omega (arith, t .1)))
-      (saved-good ei (s .cells) o (o .pc) (s .core .pc-24))
+      let t = code-target (o .code) (s .formed .core .code) in
+      let w = waits-good (s .formed .core) 0 (o .nmi) 0 refl (s .formed .core .nmi) (omega arith) in
+      on (goto-good (eicc-good (modes-good w (o .np) 0 1 (s .formed .core .np) (omega arith) (omega arith)) (o .code) (t .1)) (o .code) (t .0) (omega (arith, t .1)))
+      (saved-good ei (s .formed .cells) o (o .pc) (s .formed .core .pc-24))
 
   fetch-formed : (a : ℕ) (k : ℕ → Outcome) → ((h : ℕ) → h < 2 ^ 16 → Formed (k h)) → Formed (fetch a map o c m k)
   unfolding fetch
@@ -366,33 +322,38 @@ refused-changes-nothing map o c m = step-keeps map o c (same m) .stopped
 -- A step from a well-formed state leads to one, and from bytes to bytes.
 pub step-well-formed : (map : List ℕ) (o : Open) (c m : Cells) → WellFormed o c → Bytes m
     → (o′ : Open) → step map o c m .went ≡ Next o′ → WellFormed o′ (step map o c m .cells) × Bytes (step map o c m .mem)
-step-well-formed map o c m w b o′ e = well-formed (step-formed map (state w b) .went o′ e)
+step-well-formed map o c m w b o′ e =
+    let s = step-formed map (record { formed = w; bytes = b }) .went o′ e in (s .formed, s .bytes)
 
 -- So does a run, however it ends.
 pub run-well-formed : (budget n : ℕ) (map : List ℕ) (o : Open) (c m : Cells) → WellFormed o c → Bytes m
     → WellFormed (run budget n map o c m .ran .core) (run budget n map o c m .cells) × Bytes (run budget n map o c m .mem)
 run-well-formed budget n map o c m w b =
-    well-formed (run-holds State map (λ o c m s. step-formed map s) budget n o c m (state w b))
+    let s = run-holds State map (λ o c m s. step-formed map s) budget n o c m (record { formed = w; bytes = b }) in (s .formed, s .bytes)
 
 -- The state after reset is well-formed.
 pub reset-well-formed : WellFormed resetOpen resetCells
 reset-well-formed =
     record {
-      nums = refl;
-      marks = refl;
-      r0 = refl;
-      r0-mark = refl;
-      small = λ i. zero-small 38 i (limit i) (limit-pos i);
-      small-marks = λ i. zero-small 38 i (markLimit i) (markLimit-pos i);
-      pc-even = refl;
-      pc-24 = omega arith;
-      np = omega arith;
-      ep = omega arith;
-      id = omega arith;
-      ecr = omega arith;
-      code = refl;
-      nmi = omega arith;
-      halted = omega arith;
+      core = record {
+        pc-even = refl;
+        pc-24 = omega arith;
+        np = omega arith;
+        ep = omega arith;
+        id = omega arith;
+        ecr = omega arith;
+        code = refl;
+        nmi = omega arith;
+        halted = omega arith;
+      };
+      cells = record {
+        nums = refl;
+        marks = refl;
+        r0 = refl;
+        r0-mark = refl;
+        small = λ i. zero-small 38 i (limit i) (limit-pos i);
+        small-marks = λ i. zero-small 38 i (markLimit i) (markLimit-pos i);
+      };
     }
 
 -- NP, EP and ID are never marked.

@@ -27,13 +27,17 @@ markLimit i =
 abbrev pub goodCode : ℕ → Bool
 goodCode k = eqb k 0 || (eqb (k % 16) 0 && (leb 0x0080 k && leb k 0x0FF0))
 
-pub record WellFormed (o : Open) (c : Cells) : Type 0 where
+-- the cells: r0 is 0 and unmarked, and each number has a mark beside it
+pub record GoodCells (c : Cells) : Type 0 where
   pub nums : length (c .nums) ≡ 38
   pub marks : length (c .marks) ≡ 38
   pub r0 : getD (c .nums) 0 0 ≡ 0
   pub r0-mark : getD (c .marks) 0 0 ≡ 0
   pub small : (i : ℕ) → getD (c .nums) i 0 < limit i
   pub small-marks : (i : ℕ) → getD (c .marks) i 0 < markLimit i
+
+-- what is never marked
+pub record GoodOpen (o : Open) : Type 0 where
   pub pc-even : o .pc % 2 ≡ 0
   pub pc-24 : o .pc < 2 ^ 24
   pub np : o .np < 2
@@ -43,6 +47,10 @@ pub record WellFormed (o : Open) (c : Cells) : Type 0 where
   pub code : goodCode (o .code) ≡ true
   pub nmi : o .nmi < 2
   pub halted : o .halted < 2
+
+pub record WellFormed (o : Open) (c : Cells) : Type 0 where
+  pub core : GoodOpen o
+  pub cells : GoodCells c
 
 -- bytes of memory
 pub record Bytes (m : Cells) : Type 0 where

@@ -131,4 +131,4 @@ settled o w r h e = rw h e
 
 -- a well-formed state fits
 pub formed-fits : {o : Open} {c : Cells} → WellFormed o c → Fits o
-formed-fits {o} w = record { np = w .np; ep = w .ep; id = w .id; code = code-target (o .code) (w .code) .1; nmi = w .nmi; halted = w .halted }
+formed-fits {o} w = record { np = w .core .np; ep = w .core .ep; id = w .core .id; code = code-target (o .code) (w .core .code) .1; nmi = w .core .nmi; halted = w .core .halted }

@@ -28,7 +28,7 @@ pub record Marks (m : List ℕ) : Type 0 where
 
 pub formed-marks : {o : Open} {c : Cells} → WellFormed o c → Marks (c .marks)
 formed-marks {o} {c} w =
-    record { long = w .marks; regs = λ i h. reg-mark i h (w .small-marks i); eipc = w .small-marks 32; fepc = w .small-marks 34 }
+    record { long = w .cells .marks; regs = λ i h. reg-mark i h (w .cells .small-marks i); eipc = w .cells .small-marks 32; fepc = w .cells .small-marks 34 }
   where
     reg-mark : (i : ℕ) → i < 32 → getD (c .marks) i 0 < markLimit i → getD (c .marks) i 0 < 2
     reg-mark i h l = simp (lt-ltb i 32 h) at l
@@ -158,7 +158,7 @@ eleven-there l h = ap (λ (s : List ℕ). take 32 l ++ s) (sym (drop-reads l 32 
 -- What a well-formed state puts together is taken apart as that state.
 module _ (o : Open) (c : Cells) (map : List ℕ) (w : WellFormed o c) where
   regs-long : length (take 32 (c .nums)) ≡ 32
-  regs-long = length-take-le 32 (c .nums) (omega (arith, w .nums))
+  regs-long = length-take-le 32 (c .nums) (omega (arith, w .cells .nums))
 
   the-pc : getD (wordsOf o c map) atPC 0 ≡ o .pc
   the-pc = after (take 32 (c .nums)) _ 0 regs-long
@@ -198,13 +198,13 @@ module _ (o : Open) (c : Cells) (map : List ℕ) (w : WellFormed o c) where
       × (getD (wordsOf o c map) atPSW 0 / 2 ^ 5 % 2 ≡ o .id) × (getD (wordsOf o c map) atPSW 0 % 2 ^ 5 ≡ getD (c .nums) (sys PSW) 0)
       × (getD (wordsOf o c map) atPSW 0 ≤ 0xFF)
   in-psw =
-      let p = psw-parts (getD (c .nums) (sys PSW) 0) (o .np) (o .ep) (o .id) (w .np) (w .ep) (w .id) in
-      rw the-psw (p .0, p .1, p .2, p .3 ∙ omega (arith, w .small 37), p .4)
+      let p = psw-parts (getD (c .nums) (sys PSW) 0) (o .np) (o .ep) (o .id) (w .core .np) (w .core .ep) (w .core .id) in
+      rw the-psw (p .0, p .1, p .2, p .3 ∙ omega (arith, w .cells .small 37), p .4)
 
   in-waits :
       (byte 0 (getD (wordsOf o c map) atWaits 0) ≡ o .halted) × (byte 1 (getD (wordsOf o c map) atWaits 0) ≡ o .nmi)
       × (byte 2 (getD (wordsOf o c map) atWaits 0) ≡ 0) × (byte 3 (getD (wordsOf o c map) atWaits 0) ≡ 0)
-  in-waits = rw the-waits (waits-parts (o .halted) (o .nmi) (w .halted) (w .nmi))
+  in-waits = rw the-waits (waits-parts (o .halted) (o .nmi) (w .core .halted) (w .core .nmi))
 
   in-marks :
       (byte 0 (getD (wordsOf o c map) atSysMarks 0) ≡ getD (c .marks) (sys PSW) 0 % 2 ^ 5)
@@ -214,7 +214,7 @@ module _ (o : Open) (c : Cells) (map : List ℕ) (w : WellFormed o c) where
   in-marks =
       rw the-sys-marks
       (marks-parts (getD (c .marks) (sys PSW) 0) (getD (c .marks) (sys EIPSW) 0) (getD (c .marks) (sys FEPSW) 0) (getD (c .marks) (sys EIPC) 0)
-      (getD (c .marks) (sys FEPC) 0) (w .small-marks 33) (w .small-marks 35) (w .small-marks 32) (w .small-marks 34))
+      (getD (c .marks) (sys FEPC) 0) (w .cells .small-marks 33) (w .cells .small-marks 35) (w .cells .small-marks 32) (w .cells .small-marks 34))
 
   core-back : coreIn (wordsOf o c map) ≡ o
   core-back = λ i.
@@ -234,9 +234,9 @@ module _ (o : Open) (c : Cells) (map : List ℕ) (w : WellFormed o c) where
 
   nums-back : numsIn (wordsOf o c map) ≡ c .nums
   nums-back =
-      let ecr : 0 ≡ getD (c .nums) 36 0 = omega (arith, w .small 36) in
+      let ecr : 0 ≡ getD (c .nums) 36 0 = omega (arith, w .cells .small 36) in
       ap₂ (λ (s t : List ℕ). s ++ t) regs-back (λ i. the-eipc i ∷ the-eipsw i ∷ the-fepc i ∷ the-fepsw i ∷ ecr i ∷ in-psw .3 i ∷ [])
-      ∙ six-there (c .nums) (w .nums)
+      ∙ six-there (c .nums) (w .cells .nums)
 
   marks-back : marksIn (wordsOf o c map) ≡ c .marks
   marks-back =
@@ -250,9 +250,9 @@ module _ (o : Open) (c : Cells) (map : List ℕ) (w : WellFormed o c) where
       ap (λ (x : ℕ). x % 2) (in-marks .3) ∙ omega (arith, k .eipc) in
       let fepc : byte 3 (getD (wordsOf o c map) atSysMarks 0) / 2 % 2 ≡ getD m (sys FEPC) 0 =
       ap (λ (x : ℕ). x / 2 % 2) (in-marks .3) ∙ omega (arith, k .eipc, k .fepc) in
-      let ecr : 0 ≡ getD m 36 0 = omega (arith, w .small-marks 36) in
+      let ecr : 0 ≡ getD m 36 0 = omega (arith, w .cells .small-marks 36) in
       let flags : byte 0 (getD (wordsOf o c map) atSysMarks 0) % 2 ^ 5 ≡ getD m (sys PSW) 0 =
-      ap (λ (x : ℕ). x % 2 ^ 5) (in-marks .0) ∙ omega (arith, w .small-marks 37) in
+      ap (λ (x : ℕ). x % 2 ^ 5) (in-marks .0) ∙ omega (arith, w .cells .small-marks 37) in
       ap₂ (λ (s t : List ℕ). s ++ t) regs (λ i. eipc i ∷ in-marks .1 i ∷ fepc i ∷ in-marks .2 i ∷ ecr i ∷ flags i ∷ []) ∙ six-there m (k .long)
 
   cells-back : cellsIn (wordsOf o c map) ≡ c
@@ -343,34 +343,34 @@ passes ws p =
 -- What a well-formed state puts together is words.
 pub formed-words : (o : Open) (c : Cells) (map : List ℕ) → WellFormed o c → Below (2 ^ 32) map → Below (2 ^ 32) (wordsOf o c map)
 formed-words o c map w h =
-    below-append (take 32 (c .nums)) _ (below-take (2 ^ 32) (c .nums) 32 (omega arith) (λ i l. simp (lt-ltb i 32 l) at (w .small i)))
-    (below-cons (omega (arith, w .pc-24)) (below-cons (omega arith) (below-cons (omega (arith, w .small 32)) (below-cons (omega (arith, w .small 33))
-    (below-cons (omega (arith, w .small 34)) (below-cons (omega (arith, w .small 35)) (below-cons (w .ecr) (below-cons (omega (arith, code-target (o .code) (w .code) .1))
-    (below-cons (omega (arith, w .halted, w .nmi)) (below-cons (pack-word (c .marks) 0 (formed-marks w))
-    (below-cons (omega (arith, w .small-marks 33, w .small-marks 35, w .small-marks 32, w .small-marks 34)) h)))))))))))
+    below-append (take 32 (c .nums)) _ (below-take (2 ^ 32) (c .nums) 32 (omega arith) (λ i l. simp (lt-ltb i 32 l) at (w .cells .small i)))
+    (below-cons (omega (arith, w .core .pc-24)) (below-cons (omega arith) (below-cons (omega (arith, w .cells .small 32)) (below-cons (omega (arith, w .cells .small 33))
+    (below-cons (omega (arith, w .cells .small 34)) (below-cons (omega (arith, w .cells .small 35)) (below-cons (w .core .ecr) (below-cons (omega (arith, code-target (o .code) (w .core .code) .1))
+    (below-cons (omega (arith, w .core .halted, w .core .nmi)) (below-cons (pack-word (c .marks) 0 (formed-marks w))
+    (below-cons (omega (arith, w .cells .small-marks 33, w .cells .small-marks 35, w .cells .small-marks 32, w .cells .small-marks 34)) h)))))))))))
 
 -- What a well-formed state puts together passes.
 pub formed-good-state : (o : Open) (c : Cells) (map : List ℕ) → WellFormed o c → goodState (wordsOf o c map) ≡ true
 formed-good-state o c map w =
     passes (wordsOf o c map)
     (record {
-      r0 = List·getD-append (take 32 (c .nums)) _ 0 0 (omega (arith, regs-long o c map w)) ∙ getD-take 32 (c .nums) 0 0 (omega arith) ∙ w .r0;
+      r0 = List·getD-append (take 32 (c .nums)) _ 0 0 (omega (arith, regs-long o c map w)) ∙ getD-take 32 (c .nums) 0 0 (omega arith) ∙ w .cells .r0;
       r0-mark = ap (λ (x : ℕ). x % 2) (the-reg-marks o c map w)
-          ∙ omega (arith, pack-more (c .marks) 0 (formed-marks w) (omega arith), w .r0-mark);
-      pc-even = ap (λ (x : ℕ). x % 2) (the-pc o c map w) ∙ w .pc-even;
-      pc = omega (arith, the-pc o c map w, w .pc-even, w .pc-24);
+          ∙ omega (arith, pack-more (c .marks) 0 (formed-marks w) (omega arith), w .cells .r0-mark);
+      pc-even = ap (λ (x : ℕ). x % 2) (the-pc o c map w) ∙ w .core .pc-even;
+      pc = omega (arith, the-pc o c map w, w .core .pc-even, w .core .pc-24);
       psw = in-psw o c map w .4;
-      eipsw = omega (arith, the-eipsw o c map w, w .small 33);
-      fepsw = omega (arith, the-fepsw o c map w, w .small 35);
-      eipc = omega (arith, the-eipc o c map w, w .small 32);
-      fepc = omega (arith, the-fepc o c map w, w .small 34);
-      code = ap goodCode (the-code o c map w) ∙ w .code;
-      halted = omega (arith, in-waits o c map w .0, w .halted);
-      nmi = omega (arith, in-waits o c map w .1, w .nmi);
+      eipsw = omega (arith, the-eipsw o c map w, w .cells .small 33);
+      fepsw = omega (arith, the-fepsw o c map w, w .cells .small 35);
+      eipc = omega (arith, the-eipc o c map w, w .cells .small 32);
+      fepc = omega (arith, the-fepc o c map w, w .cells .small 34);
+      code = ap goodCode (the-code o c map w) ∙ w .core .code;
+      halted = omega (arith, in-waits o c map w .0, w .core .halted);
+      nmi = omega (arith, in-waits o c map w .1, w .core .nmi);
       filler = in-waits o c map w .2;
       filler2 = in-waits o c map w .3;
       psw-marks = omega (arith, in-marks o c map w .0);
-      pc-marks = omega (arith, in-marks o c map w .3, w .small-marks 32, w .small-marks 34);
+      pc-marks = omega (arith, in-marks o c map w .3, w .cells .small-marks 32, w .cells .small-marks 34);
     })
 
 -- a register's number and mark, within their bounds
@@ -393,27 +393,31 @@ module _ (ws : List ℕ) (long : length ws ≡ WORDS) (words : Below (2 ^ 32) ws
   good-state-formed =
       let p = passed ws good in
       record {
-        nums = length-append (take 32 ws) _ ∙ omega (arith, first-long);
-        marks = length-append (bitsFrom (getD ws atRegMarks 0) 0 32) _ ∙ omega (arith, bits-length (getD ws atRegMarks 0) 0 32);
-        r0 = List·getD-append (take 32 ws) _ 0 0 (omega (arith, first-long)) ∙ getD-take 32 ws 0 0 (omega arith) ∙ p .r0;
-        r0-mark = bit-0 (p .r0-mark);
-        small = each (λ (i x : ℕ). x < limit i) (take 32 ws) _ _ _ _ _ _ first-long
-            (λ i h. reg-limit i (getD (take 32 ws) i 0) h (rw (getD-take 32 ws i 0 h) (words .at i)))
-            (omega (arith, p .eipc)) (omega (arith, p .eipsw)) (omega (arith, p .fepc)) (omega (arith, p .fepsw)) (omega arith) (omega arith)
-            (λ i h. omega (arith, reset-well-formed .small i));
-        small-marks = each (λ (i x : ℕ). x < markLimit i) (bitsFrom (getD ws atRegMarks 0) 0 32) _ _ _ _ _ _ (bits-length (getD ws atRegMarks 0) 0 32)
-            (λ i h. reg-mark-limit i (getD (bitsFrom (getD ws atRegMarks 0) 0 32) i 0) h (bits-below (getD ws atRegMarks 0) 0 32 .at i))
-            (omega arith) (omega arith) (omega arith) (omega arith) (omega arith) (omega arith)
-            (λ i h. omega (arith, reset-well-formed .small-marks i));
-        pc-even = p .pc-even;
-        pc-24 = omega (arith, p .pc);
-        np = omega arith;
-        ep = omega arith;
-        id = omega arith;
-        ecr = words .at atECR;
-        code = p .code;
-        nmi = omega (arith, p .nmi);
-        halted = omega (arith, p .halted);
+        core = record {
+          pc-even = p .pc-even;
+          pc-24 = omega (arith, p .pc);
+          np = omega arith;
+          ep = omega arith;
+          id = omega arith;
+          ecr = words .at atECR;
+          code = p .code;
+          nmi = omega (arith, p .nmi);
+          halted = omega (arith, p .halted);
+        };
+        cells = record {
+          nums = length-append (take 32 ws) _ ∙ omega (arith, first-long);
+          marks = length-append (bitsFrom (getD ws atRegMarks 0) 0 32) _ ∙ omega (arith, bits-length (getD ws atRegMarks 0) 0 32);
+          r0 = List·getD-append (take 32 ws) _ 0 0 (omega (arith, first-long)) ∙ getD-take 32 ws 0 0 (omega arith) ∙ p .r0;
+          r0-mark = bit-0 (p .r0-mark);
+          small = each (λ (i x : ℕ). x < limit i) (take 32 ws) _ _ _ _ _ _ first-long
+              (λ i h. reg-limit i (getD (take 32 ws) i 0) h (rw (getD-take 32 ws i 0 h) (words .at i)))
+              (omega (arith, p .eipc)) (omega (arith, p .eipsw)) (omega (arith, p .fepc)) (omega (arith, p .fepsw)) (omega arith) (omega arith)
+              (λ i h. omega (arith, reset-well-formed .cells .small i));
+          small-marks = each (λ (i x : ℕ). x < markLimit i) (bitsFrom (getD ws atRegMarks 0) 0 32) _ _ _ _ _ _ (bits-length (getD ws atRegMarks 0) 0 32)
+              (λ i h. reg-mark-limit i (getD (bitsFrom (getD ws atRegMarks 0) 0 32) i 0) h (bits-below (getD ws atRegMarks 0) 0 32 .at i))
+              (omega arith) (omega arith) (omega arith) (omega arith) (omega arith) (omega arith)
+              (λ i h. omega (arith, reset-well-formed .cells .small-marks i));
+        };
       }
 
   pub together-apart : wordsOf (coreIn ws) (cellsIn ws) (mapIn ws) ≡ ws

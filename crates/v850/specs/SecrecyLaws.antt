@@ -40,7 +40,7 @@ map-words {ws} g = record { at = λ i. rw (getD-drop atMap ws i 0) (g .words .at
 pub together-good : (o : Open) (c : Cells) (map : List ℕ) → WellFormed o c → length map ≡ 16 → Below (2 ^ 32) map → Good (wordsOf o c map)
 together-good o c map w l h =
     record {
-      long = length-append (take 32 (c .nums)) _ ∙ omega (arith, length-take-le 32 (c .nums) (omega (arith, w .nums)));
+      long = length-append (take 32 (c .nums)) _ ∙ omega (arith, length-take-le 32 (c .nums) (omega (arith, w .cells .nums)));
       words = formed-words o c map w h;
       state = formed-good-state o c map w;
     }
@@ -135,7 +135,7 @@ module _ {ws : List ℕ} (g : Good ws) where
   put-at : (t : List ℕ) → take 32 (numsIn ws) ++ t ≡ ws → (j : ℕ) → getD ws (32 + j) 0 ≡ getD t j 0
   put-at t e j =
       sym (ap (λ (l : List ℕ). getD l (32 + j) 0) e)
-      ∙ after (take 32 (numsIn ws)) t j (length-take-le 32 (numsIn ws) (omega (arith, formed g .nums)))
+      ∙ after (take 32 (numsIn ws)) t j (length-take-le 32 (numsIn ws) (omega (arith, formed g .cells .nums)))
 
   put-waits : getD ws atWaits 0 ≡ coreIn ws .halted + 2 ^ 8 * coreIn ws .nmi
   put-waits = put-at _ (together-apart ws (g .long) (g .words) (g .state)) 8
@@ -237,8 +237,8 @@ module _ {v w : List ℕ} (f : Good v) (g : Good w) (h : AlikeWords v w) where
   pub cells-alike : Alike bitCells (cellsIn v) (cellsIn w)
   cells-alike =
       record {
-        sizes = formed f .nums ∙ sym (formed g .nums);
-        whole = formed f .nums ∙ sym (formed f .marks);
+        sizes = formed f .cells .nums ∙ sym (formed g .cells .nums);
+        whole = formed f .cells .nums ∙ sym (formed f .cells .marks);
         marks = marks-same;
         values = λ i. cells-agree i .0;
         bits = λ i k e. cells-agree i .1 e k;

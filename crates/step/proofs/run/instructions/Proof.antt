@@ -53,7 +53,7 @@ returns c = let going = c .before .before .before .loop .inv .3 in
 
 instruction-requires : tie.Need-instruction-requires Inv-loop μ-loop
 instruction-requires c κs = let going = c .before .before .before .before .before .before .loop .inv .3 in
-    (going .prepared, going .formed .pc-even)
+    (going .prepared, going .formed .core .pc-even)
 
 enum-told : tie.Need-enum-told Inv-loop μ-loop
 enum-told c = search needs

@@ -41,7 +41,7 @@ loop-again c =
     let args′ = c .before .before .before .args in
     let pre′ = c .before .before .before .pre in
     let loop′ = c .before .before .loop in
-    filled-next (λ n. take n (args′ .cells .now)) 59 32 (loop′ .i) _ _ (loop′ .ws) (omega arith) (omega arith) (take-more (args′ .cells .now) (loop′ .i) (omega (arith, pre′ .0 .nums))) refl (loop′ .inv)
+    filled-next (λ n. take n (args′ .cells .now)) 59 32 (loop′ .i) _ _ (loop′ .ws) (omega arith) (omega arith) (take-more (args′ .cells .now) (loop′ .i) (omega (arith, pre′ .0 .cells .nums))) refl (loop′ .inv)
 
 array-write-ws-2 : tie.Need-array-write-ws-2 Inv-loop μ-loop
 array-write-ws-2 c = search needs
