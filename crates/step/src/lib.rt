@@ -16,7 +16,7 @@ use machine::Op;
 use machine::Open;
 use machine::Tv;
 
-// What is never marked, in two numbers: a step mostly changes PC alone, and one test of the rest says whether anything waits.
+// What is never marked, in two numbers: a step mostly changes PC alone.
 // `rest` holds the maskable code in bits 0 to 15, an NMI in bit 16, HALT's state in bit 17, ID, EP and NP in bits 18 to 20, and ECR
 // from bit 32 on.
 pub struct Packed {
