@@ -18,7 +18,7 @@ use word::extend;
 pub fn is_long(first: u16) -> bool
     ensures { λ r. ⌜ r ≡ long first ⌝ }
 {
-    48 <= first / 32 % 64
+    0b110000 <= first / 32 % 64
 }
 
 // What a first halfword stands for, with the second one if the first is long; else the second is not looked at.
