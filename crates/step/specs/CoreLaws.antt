@@ -1,12 +1,15 @@
 -- What is never marked, in two numbers: packed and taken out it is the same, and what a step makes of it fits again.
 use mathlib.Core.Path.{_≡_, refl, sym, ap, _∙_}
 use mathlib.Core.Bool.{true, _&&_}
+use mathlib.Core.List.{[]}
 use Prim.Native.Nat.{ℕ, _+_, _*_, _/_, _%_, _^_, _<_}
 use native.Mathlib.Omega.{arith}
 use lib.Dec.{eqb}
+use Rattle.word.specs.Extend.{sum24}
 use Rattle.machine.specs.declared.Open.{Open}
-use Rattle.machine.specs.declared.Tv.{Tv}
-use Rattle.machine.specs.Marked.{Cells}
+use Rattle.machine.specs.declared.Went.{Went}
+use Rattle.machine.specs.declared.Went.the-variants.{Next}
+use Rattle.machine.specs.Marked.{Cells, both}
 use Rattle.machine.specs.Psw.{EIPC, EIPSW, FEPC, FEPSW}
 use Rattle.machine.specs.Step.{Outcome, after, next, goto, plus, modes, cause, waits, reveal, exception, trap, illegal, return, reti, takeNmi, takeCode}
 use Rattle.machine.specs.WellFormed.{WellFormed}
@@ -96,9 +99,6 @@ module _ {o : Open} (f : Fits o) {c m : Cells} where
       reveal-ends o _ _ (reveal-ends o _ _
       (on-fits _ (modes-fits f _ _ _ (omega arith) (omega arith) (omega arith))))
 
-  pub psw-fits : (v : Tv) (g : ℕ → Cells) → Fitting c m (reveal o c m v (λ w. next (plus 4 (modes (w / 2 ^ 7 % 2) (w / 2 ^ 6 % 2) (w / 2 ^ 5 % 2) o)) (g w) m))
-  psw-fits v g = reveal-ends o v _ (on-fits _ (modes-fits f _ _ _ (omega arith) (omega arith) (omega arith)))
-
   pub system-fits : (s : System) → Fitting c m (doSystem s o c m)
   unfolding doSystem trap reti
   system-fits (Trap vector) = exception-fits _ _
@@ -125,6 +125,36 @@ module _ {o : Open} (f : Fits o) {c m : Cells} where
 pub wide-fits : (w : Wide) {c m d q : Cells} {x : Outcome} → after (wentWide w) d q ≡ x → Fitting c m x → goesOn (w .answer) ≡ true → Fits (w .open)
 wide-fits w {d = d} {q = q} {x = x} e f t =
     let g : next (w .open) d q ≡ x = rw t at e in f .went (w .open) (ap (λ (y : Outcome). y .went) (sym g))
+
+-- so do the modes that LDSR writes
+pub psw-fits : {o : Open} → Fits o → (w : Wide) (x : ℕ) → wentWide w ≡ Next (plus 4 (modes (x / 2 ^ 7 % 2) (x / 2 ^ 6 % 2) (x / 2 ^ 5 % 2) o)) → goesOn (w .answer) ≡ true → Fits (w .open)
+psw-fits {o} f w x e =
+    wide-fits w {c = both [] []} {m = both [] []} (ap (λ (v : Went). after v (both [] []) (both [] [])) e)
+    (on-fits f (sum24 (o .pc) 4) (modes-fits f _ _ _ (omega arith) (omega arith) (omega arith)))
+
+-- three bits side by side
+two-parts : (q : ℕ) → q % 4 ≡ q % 2 + 2 * (q / 2 % 2)
+two-parts q = omega arith
+
+three-parts : (q : ℕ) → q % 8 ≡ q % 2 + 2 * (q / 2 % 4)
+three-parts q = omega arith
+
+pub side-by-side : (r : ℕ) → r / 2 ^ 18 % 8 ≡ r / 2 ^ 18 % 2 + 2 * (r / 2 ^ 19 % 2) + 4 * (r / 2 ^ 20 % 2)
+side-by-side r =
+    let h : r / 2 ^ 19 ≡ r / 2 ^ 18 / 2 = omega arith in
+    let k : r / 2 ^ 20 ≡ r / 2 ^ 18 / 2 / 2 = omega arith in
+    let a = three-parts (r / 2 ^ 18) in
+    let b = two-parts (r / 2 ^ 18 / 2) in
+    rw (h, k) (omega (arith, a, b))
+
+-- modes that are those of the state leave it as it is
+three-bits : (i e n x : ℕ) → i < 2 → e < 2 → n < 2 → i + 2 * e + 4 * n ≡ x / 2 ^ 5 % 8 → (x / 2 ^ 7 % 2 ≡ n) × (x / 2 ^ 6 % 2 ≡ e) × (x / 2 ^ 5 % 2 ≡ i)
+three-bits i e n x h k l q = (omega arith, omega arith, omega arith)
+
+pub modes-kept : (c : Packed) (x : ℕ) → openOf c .id + 2 * openOf c .ep + 4 * openOf c .np ≡ x / 2 ^ 5 % 8
+    → modes (x / 2 ^ 7 % 2) (x / 2 ^ 6 % 2) (x / 2 ^ 5 % 2) (openOf c) ≡ openOf c
+modes-kept c x q =
+    let b = three-bits (openOf c .id) (openOf c .ep) (openOf c .np) x (omega arith) (omega arith) (omega arith) q in rw (b .0, b .1, b .2)
 
 pub settled : (o : Packed) (w : Wide) (r : Out) {c m : Cells} {x : Outcome} → wentOf o r ≡ wentWide w → after (wentWide w) c m ≡ x → after (wentOf o r) c m ≡ x
 settled o w r h e = rw h e

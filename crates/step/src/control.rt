@@ -1,13 +1,12 @@
 // Jumps, branches, system registers, exceptions and returns. None of them touches memory.
 ghost use mathlib.Core.Path.{_≡_};
 ghost use Prim.Native.Nat.{_<_, _/_, _%_, _^_};
-ghost use Rattle.machine.specs.Marked.{Cells, both};
+ghost use Rattle.machine.specs.Marked.{Cells, both, lift1, put};
 ghost use Rattle.machine.specs.Psw.{putReg, condition, sys, bits, putPswFlags};
 ghost use Rattle.machine.specs.Step.{after, reveal, next, plus, modes, savePc, savePsw, jmp, bcond, jarl, ldsr, system, exception, trap, illegal, return, reti, nmiAccepted, codeAccepted, takeNmi, takeCode};
 ghost use Rattle.step.specs.Tasks.{openOf, wentOf, wentWide};
 use crate::Out;
 use crate::Packed;
-use crate::System;
 use crate::Wide;
 use crate::core;
 use crate::parts;
@@ -91,16 +90,37 @@ pub fn set_condition(
     core::plus(4, o)
 }
 
-// LDSR to PSW: its bits choose whether requests are accepted, so a marked value is refused.
-fn load_psw(v: Tv, o: Open, cells: &mut [u32; 38], tags: &mut [u8; 38]) -> Wide
-    ensures { λ r. ⌜ ((m : Cells) → after (wentWide r) (both (now (cells .exit)) (now (tags .exit))) m ≡ reveal o (both (now (cells .entry)) (now (tags .entry))) m v (λ w. next (plus 4 (modes (w / 2 ^ 7 % 2) (w / 2 ^ 6 % 2) (w / 2 ^ 5 % 2) o)) (putPswFlags (bits w 0) (both (now (cells .entry)) (now (tags .entry)))) m)) ⌝ }
+// LDSR to PSW: its bits choose whether requests are accepted, so a marked value is refused. One that leaves NP, EP and ID as they are is
+// calm.
+fn load_psw(v: Tv, o: Packed, cells: &mut [u32; 38], tags: &mut [u8; 38]) -> Out
+    ensures { λ r. ⌜ ((m : Cells) → after (wentOf o r) (both (now (cells .exit)) (now (tags .exit))) m ≡ reveal (openOf o) (both (now (cells .entry)) (now (tags .entry))) m v (λ w. next (plus 4 (modes (w / 2 ^ 7 % 2) (w / 2 ^ 6 % 2) (w / 2 ^ 5 % 2) (openOf o))) (putPswFlags (bits w 0) (both (now (cells .entry)) (now (tags .entry)))) m)) ⌝ }
 {
     if v.mark {
-        return parts::leak(o);
+        return core::leak(o);
     }
     let w = v.val;
     psw::put_flags(w, 0, cells, tags);
-    parts::next(parts::plus(4, parts::modes(w / 128 % 2, w / 64 % 2, w / 32 % 2, o)))
+    if core::modes(o) == w / 32 % 8 {
+        return core::plus(4, o);
+    }
+    let n = parts::modes(w / 128 % 2, w / 64 % 2, w / 32 % 2, core::unpack(o));
+    core::settle(parts::next(parts::plus(4, n)), o)
+}
+
+// LDSR to the saved PC in system register n.
+fn load_pc(n: u32, v: Tv, cells: &mut [u32; 38], tags: &mut [u8; 38])
+    requires { ⌜ n < 6 ⌝ }
+    ensures { λ _. ⌜ both (now (cells .exit)) (now (tags .exit)) ≡ put (sys n) (lift1 (λ w. w % 2 ^ 24) v) (both (now (cells .entry)) (now (tags .entry))) ⌝ }
+{
+    cells::put(
+        cells,
+        tags,
+        sys(n),
+        Tv {
+            val: v.val % 16777216,
+            mark: v.mark,
+        },
+    );
 }
 
 pub fn ldsr(reg2: u32, regid: u32, o: Packed, cells: &mut [u32; 38], tags: &mut [u8; 38]) -> Out
@@ -110,15 +130,7 @@ pub fn ldsr(reg2: u32, regid: u32, o: Packed, cells: &mut [u32; 38], tags: &mut 
     let v = cells::reg(&*cells, &*tags, reg2);
     match regid {
         0 => {
-            cells::put(
-                cells,
-                tags,
-                sys(EIPC),
-                Tv {
-                    val: v.val % 16777216,
-                    mark: v.mark,
-                },
-            );
+            load_pc(EIPC, v, cells, tags);
             core::plus(4, o)
         }
         1 => {
@@ -126,25 +138,14 @@ pub fn ldsr(reg2: u32, regid: u32, o: Packed, cells: &mut [u32; 38], tags: &mut 
             core::plus(4, o)
         }
         2 => {
-            cells::put(
-                cells,
-                tags,
-                sys(FEPC),
-                Tv {
-                    val: v.val % 16777216,
-                    mark: v.mark,
-                },
-            );
+            load_pc(FEPC, v, cells, tags);
             core::plus(4, o)
         }
         3 => {
             psw::put_spread(sys(FEPSW), v, cells, tags);
             core::plus(4, o)
         }
-        _ => {
-            let w = load_psw(v, core::unpack(o), cells, tags);
-            core::settle(w, o)
-        }
+        _ => load_psw(v, o, cells, tags),
     }
 }
 

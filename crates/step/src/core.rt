@@ -1,9 +1,9 @@
 // What is never marked, in two numbers; and how a step ends.
 ghost use mathlib.Core.Path.{_≡_};
 ghost use mathlib.Core.Bool.{true};
-ghost use Prim.Native.Nat.{_<_, _/_, _%_};
+ghost use Prim.Native.Nat.{_+_, _*_, _<_, _/_, _%_};
 ghost use Rattle.machine.specs.Step.{goto, plus};
-ghost use Rattle.step.specs.Tasks.{openOf, Fits, goesOn, nextOf, wentOf, wentWide};
+ghost use Rattle.step.specs.Tasks.{openOf, Fits, goesOn, nextOf, wentTo, wentOf, wentWide};
 use crate::Out;
 use crate::Packed;
 use crate::Wide;
@@ -52,16 +52,23 @@ pub fn plus(n: u32, c: Packed) -> Out
     goto(extend::sum24(pc(c), n), c)
 }
 
+// The step is refused.
+pub fn refuse(answer: Answer, place: u32, c: Packed) -> Out
+    ensures { λ r. ⌜ wentOf c r ≡ wentTo answer place (openOf c) ⌝ }
+{
+    Out {
+        answer: answer,
+        place: place,
+        calm: true,
+        core: c,
+    }
+}
+
 // A marked value would have chosen an address, a branch or a return.
 pub fn leak(c: Packed) -> Out
     ensures { λ r. ⌜ wentOf c r ≡ Went.Stop Answer.Leak (openOf c .pc) ⌝ }
 {
-    Out {
-        answer: Answer::Leak,
-        place: pc(c),
-        calm: true,
-        core: c,
-    }
+    refuse(Answer::Leak, pc(c), c)
 }
 
 // The state after a step from c.
@@ -84,6 +91,13 @@ fn bit(rest: u64, place: u64) -> u32
     ensures { λ r. ⌜ r ≡ rest / place % 2 ⌝ }
 {
     (rest / place % 2) as u32
+}
+
+// NP, EP and ID as PSW has them, bits 7 to 5.
+pub fn modes(c: Packed) -> u32
+    ensures { λ r. ⌜ r ≡ openOf c .id + 2 * openOf c .ep + 4 * openOf c .np ⌝ }
+{
+    (c.rest / ID % 8) as u32
 }
 
 // Taken apart, and put together.
@@ -131,11 +145,6 @@ pub fn settle(w: Wide, c: Packed) -> Out
             calm: false,
             core: pack(w.open),
         },
-        _ => Out {
-            answer: answer,
-            place: w.place,
-            calm: true,
-            core: c,
-        },
+        _ => refuse(answer, w.place, c),
     }
 }

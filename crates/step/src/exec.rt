@@ -163,12 +163,7 @@ fn execute(
             let w = control::illegal(core::unpack(o), cells, tags);
             core::settle(w, o)
         }
-        Decoded::Undefined => Out {
-            answer: Answer::Undefined,
-            place: core::pc(o),
-            calm: true,
-            core: o,
-        },
+        Decoded::Undefined => core::refuse(Answer::Undefined, core::pc(o), o),
     }
 }
 
@@ -255,12 +250,7 @@ pub fn instruction(
     let decoded = f.decoded;
     match answer {
         Answer::Done => execute(decoded, map, sizes, o, cells, tags, mem, marks),
-        _ => Out {
-            answer: answer,
-            place: f.place,
-            calm: true,
-            core: o,
-        },
+        _ => core::refuse(answer, f.place, o),
     }
 }
 
@@ -284,10 +274,5 @@ pub fn attend(o: Packed, cells: &mut [u32; 38], tags: &mut [u8; 38]) -> Out
     if control::code_accepted(w) {
         return core::settle(control::take_code(w, cells, tags), o);
     }
-    Out {
-        answer: Answer::Asleep,
-        place: 0,
-        calm: true,
-        core: o,
-    }
+    core::refuse(Answer::Asleep, 0, o)
 }

@@ -24,8 +24,8 @@ pub struct Packed {
     pub rest: u64,
 }
 
-// How the code's step ends: `Done`, or a refusal with its place. A calm step changes PC alone, and of its `core` only PC counts: where
-// it went on, nothing new can wait, and the next step need not ask.
+// How the code's step ends: `Done`, or a refusal with its place. A calm step changes PC alone of what is never marked, and of its `core`
+// only PC counts: where it went on, nothing new can wait, and the next step need not ask.
 pub struct Out {
     pub answer: Answer,
     pub place: u32,
@@ -95,7 +95,7 @@ pub enum Task {
     System(System),
 }
 
-// The instructions that change more than PC of what is never marked.
+// The instructions that change more than PC of what is never marked. LDSR does so only to PSW, and is a task of its own.
 pub enum System {
     Trap { vector: u32 },
     Halt,

@@ -53,12 +53,7 @@ pub fn load(
             cells::put_reg(cells, tags, target, v);
             core::plus(len, o)
         }
-        Spot::Nowhere => Out {
-            answer: Answer::NoRead,
-            place: a,
-            calm: true,
-            core: o,
-        },
+        Spot::Nowhere => core::refuse(Answer::NoRead, a, o),
     }
 }
 
@@ -90,12 +85,7 @@ pub fn store(
             memory::store(size, mem, marks, p, v);
             core::plus(len, o)
         }
-        Spot::Nowhere => Out {
-            answer: Answer::NoWrite,
-            place: a,
-            calm: true,
-            core: o,
-        },
+        Spot::Nowhere => core::refuse(Answer::NoWrite, a, o),
     }
 }
 
@@ -134,19 +124,9 @@ pub fn bitwise(
                     memory::change(op, bit, mem, p);
                     core::plus(4, o)
                 }
-                Spot::Nowhere => Out {
-                    answer: Answer::NoWrite,
-                    place: a,
-                    calm: true,
-                    core: o,
-                },
+                Spot::Nowhere => core::refuse(Answer::NoWrite, a, o),
             }
         }
-        Spot::Nowhere => Out {
-            answer: Answer::NoRead,
-            place: a,
-            calm: true,
-            core: o,
-        },
+        Spot::Nowhere => core::refuse(Answer::NoRead, a, o),
     }
 }

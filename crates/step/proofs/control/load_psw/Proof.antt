@@ -1,7 +1,10 @@
--- A marked value is refused; of an open one the flags and the modes are taken.
-use mathlib.Core.Path.{refl, _∙_}
-use borrow.Author.Needs.{needs}
+-- A marked value is refused; of an open one the flags and the modes are taken, and modes that stay leave the state as it is.
+use mathlib.Core.Path.{refl, sym, ap, _∙_}
+use Rattle.machine.specs.declared.Went.the-variants.{Next}
+use Rattle.machine.specs.Step.{plus}
+use Rattle.step.specs.CoreLaws.{psw-fits, modes-kept}
 use Rattle.step.specs.StepLaws.{opened, leaked, on}
+use borrow.Author.Needs.{needs}
 use Rattle.step.proofs.control.load_psw.Statement.{statement}
 use Rattle.step.proofs.control.load_psw.Tie as tie
 
@@ -20,16 +23,38 @@ modes-requires c κs = search needs
 plus-requires : tie.Need-plus-requires
 plus-requires c κs = search needs
 
+returns-2 : tie.Need-returns-2
+returns-2 c =
+    let s = c .before .before in
+    let t = s .before .before .before .before in
+    λ m.
+    opened _ _ _ _ refl (t .if1 .left)
+    (on (c .plus .ensures) (sym (ap (plus 4) (modes-kept (t .before .args .o) (t .before .args .v .val) (sym (s .modes .ensures) ∙ c .before .if2 .taken)))) (s .before .put-flags .ensures) refl)
+
+unpack-requires : tie.Need-unpack-requires
+unpack-requires c κs = search needs
+
+modes-requires-2 : tie.Need-modes-requires-2
+modes-requires-2 c κs = search needs
+
+plus-requires-2 : tie.Need-plus-requires-2
+plus-requires-2 c κs = search needs
+
 next-requires : tie.Need-next-requires
 next-requires c κs = search needs
 
-returns-2 : tie.Need-returns-2
-returns-2 c =
-    let s1 = c .before .before .before in
-    let s2 = s1 .before .before .before in
+settle-requires : tie.Need-settle-requires
+settle-requires c κs =
+    let s = c .before .before .before in
+    psw-fits (s .unpack .ensures .1) (c .next .result) (s .before .before .before .before .before .before .before .args .v .val) (c .next .ensures ∙ ap Next (c .before .plus2 .ensures ∙ rw (c .before .before .modes2 .ensures)))
+
+returns-3 : tie.Need-returns-3
+returns-3 c =
+    let s = c .before .before .before .before in
+    let t = s .before .before .before in
     λ m.
-    opened _ _ _ _ refl (s2 .if1 .left)
-    (on (c .next .ensures) (c .before .plus .ensures ∙ rw (c .before .before .modes .ensures)) (s1 .put-flags .ensures) refl)
+    opened _ _ _ _ refl (t .before .before .before .if1 .left)
+    (on (c .settle .ensures ∙ c .before .next .ensures) (c .before .before .plus2 .ensures ∙ rw (c .before .before .before .modes2 .ensures, s .unpack .ensures .0)) (t .put-flags .ensures) refl)
 
 pub load-psw-spec : {M : Type 1} → statement M
 load-psw-spec =
@@ -40,5 +65,10 @@ load-psw-spec =
     put-flags-requires
     modes-requires
     plus-requires
+    returns-2
+    unpack-requires
+    modes-requires-2
+    plus-requires-2
     next-requires
-    returns-2)
+    settle-requires
+    returns-3)

@@ -55,13 +55,17 @@ returns-2 c =
     λ map m. step-code map (unpack′ .result) _ _ (sym (nmi-accepted′ .ensures) ∙ if1′ .left) (sym (code-accepted′ .ensures) ∙ if2′ .taken)
     (settled (args′ .o) (c .before .take-code .result) (c .settle2 .result) (c .settle2 .ensures) (c .before .take-code .ensures m)) ∙ rw (unpack′ .ensures .0)
 
+refuse-requires : tie.Need-refuse-requires
+refuse-requires c κs = search needs
+
 returns-3 : tie.Need-returns-3
 returns-3 c =
-    let pre′ = c .before .before .before .before .before .pre in
-    let unpack′ = c .before .before .before .before .unpack in
-    let nmi-accepted′ = c .before .before .before .nmi-accepted in
-    let if1′ = c .before .before .if1 in
-    λ map m. step-asleep map (unpack′ .result) _ _ (rw (unpack′ .ensures .0) (pre′)) (sym (nmi-accepted′ .ensures) ∙ if1′ .left) (sym (c .before .code-accepted .ensures) ∙ c .if2 .left) refl ∙ rw (unpack′ .ensures .0)
+    let pre′ = c .before .before .before .before .before .before .pre in
+    let unpack′ = c .before .before .before .before .before .unpack in
+    let nmi-accepted′ = c .before .before .before .before .nmi-accepted in
+    let if1′ = c .before .before .before .if1 in
+    λ map m. rw (c .refuse .ensures)
+    (step-asleep map (unpack′ .result) _ _ (rw (unpack′ .ensures .0) (pre′)) (sym (nmi-accepted′ .ensures) ∙ if1′ .left) (sym (c .before .before .code-accepted .ensures) ∙ c .before .if2 .left) refl ∙ rw (unpack′ .ensures .0))
 
 pub attend-spec : {M : Type 1} → statement M
 attend-spec =
@@ -76,4 +80,5 @@ attend-spec =
     take-code-requires
     settle-requires-2
     returns-2
+    refuse-requires
     returns-3)

@@ -43,6 +43,9 @@ enum-told-2 c = search needs
 pc-requires : tie.Need-pc-requires
 pc-requires c κs = search needs
 
+refuse-requires : tie.Need-refuse-requires
+refuse-requires c κs = search needs
+
 same-length : tie.Need-same-length
 same-length c = search needs
 
@@ -67,7 +70,8 @@ returns-2 c =
 
 returns-3 : tie.Need-returns-3
 unfolding execute
-returns-3 c = rw (c .before .enum-told2 .given .1, c .pc .ensures)
+returns-3 c = rw (c .refuse .ensures)
+    (rw (c .before .before .enum-told2 .given .1, c .before .pc .ensures))
 
 pub execute-spec : {M : Type 1} → statement M
 execute-spec =
@@ -82,6 +86,7 @@ execute-spec =
     settle-requires
     enum-told-2
     pc-requires
+    refuse-requires
     same-length
     same-length-2
     returns

@@ -20,6 +20,9 @@ enum-told c = search needs
 execute-requires : tie.Need-execute-requires
 execute-requires c κs = search needs
 
+refuse-requires : tie.Need-refuse-requires
+refuse-requires c κs = search needs
+
 same-length : tie.Need-same-length
 same-length c = search needs
 
@@ -43,10 +46,11 @@ same-length-4 c = search needs
 
 returns-2 : tie.Need-returns-2
 returns-2 c =
-    let args′ = c .before .before .before .before .before .before .before .args in
-    let pc′ = c .before .before .before .before .pc in
-    rw (stops (c .before .fetch .result .answer) (c .match .keys2))
-    (rw (stops (c .before .fetch .result .answer) (c .match .keys2)) at (c .before .fetch .ensures .1 (openOf (args′ .o)) (both (now (args′ .cells)) (now (args′ .tags))) (sym (pc′ .ensures))))
+    let args′ = c .before .before .before .before .before .before .before .before .args in
+    let pc′ = c .before .before .before .before .before .pc in
+    rw (c .refuse .ensures)
+    (rw (stops (c .before .before .fetch .result .answer) (c .before .match .keys2))
+    (rw (stops (c .before .before .fetch .result .answer) (c .before .match .keys2)) at (c .before .before .fetch .ensures .1 (openOf (args′ .o)) (both (now (args′ .cells)) (now (args′ .tags))) (sym (pc′ .ensures)))))
 
 pub instruction-spec : {M : Type 1} → statement M
 instruction-spec =
@@ -56,6 +60,7 @@ instruction-spec =
     fetch-requires
     enum-told
     execute-requires
+    refuse-requires
     same-length
     same-length-2
     returns

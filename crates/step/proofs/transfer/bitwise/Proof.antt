@@ -82,8 +82,14 @@ plus-requires-2 c κs = search needs
 enum-told-2 : tie.Need-enum-told-2
 enum-told-2 c = search needs
 
+refuse-requires : tie.Need-refuse-requires
+refuse-requires c κs = search needs
+
 enum-told-3 : tie.Need-enum-told-3
 enum-told-3 c = search needs
+
+refuse-requires-2 : tie.Need-refuse-requires-2
+refuse-requires-2 c κs = search needs
 
 same-length-2 : tie.Need-same-length-2
 same-length-2 c = search needs
@@ -107,18 +113,20 @@ same-length-3 c = search needs
 returns-4 : tie.Need-returns-4
 unfolding bitwise
 returns-4 c =
-    let t = c .before .before .before in
+    let t = c .before .before .before .before in
     let p = t .before .before .before .before .before in
-    opened _ _ _ _ (p .before .before .before .before .before .reg .ensures) (p .before .before .before .before .if1 .left)
+    rw (c .refuse .ensures)
+    (opened _ _ _ _ (p .before .before .before .before .before .reg .ensures) (p .before .before .before .before .if1 .left)
     (placed _ _ _ _ _ _ (p .before .before .before .address .ensures) (p .before .before .find .ensures) (p .p .given .1)
     (rw (sym (t .before .only-tests .ensures) ∙ t .if2 .left)
-    (nowhere _ _ _ _ _ _ (p .before .before .before .address .ensures) (c .before .before .find2 .ensures) (c .enum-told2 .given .1))))
+    (nowhere _ _ _ _ _ _ (p .before .before .before .address .ensures) (c .before .before .before .find2 .ensures) (c .before .enum-told2 .given .1)))))
 
 returns-5 : tie.Need-returns-5
 unfolding bitwise
 returns-5 c =
-    opened _ _ _ _ (c .before .before .before .before .before .reg .ensures) (c .before .before .before .before .if1 .left)
-    (nowhere _ _ _ _ _ _ (c .before .before .before .address .ensures) (c .before .before .find .ensures) (c .enum-told3 .given .1))
+    rw (c .refuse2 .ensures)
+    (opened _ _ _ _ (c .before .before .before .before .before .before .reg .ensures) (c .before .before .before .before .before .if1 .left)
+    (nowhere _ _ _ _ _ _ (c .before .before .before .before .address .ensures) (c .before .before .before .find .ensures) (c .before .enum-told3 .given .1)))
 
 pub bitwise-spec : {M : Type 1} → statement M
 bitwise-spec =
@@ -142,7 +150,9 @@ bitwise-spec =
     change-requires
     plus-requires-2
     enum-told-2
+    refuse-requires
     enum-told-3
+    refuse-requires-2
     same-length-2
     returns-3
     same-length-3

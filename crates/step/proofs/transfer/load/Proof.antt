@@ -44,6 +44,9 @@ plus-requires c κs = search needs
 enum-told : tie.Need-enum-told
 enum-told c = search needs
 
+refuse-requires : tie.Need-refuse-requires
+refuse-requires c κs = search needs
+
 returns-2 : tie.Need-returns-2
 unfolding load
 returns-2 c =
@@ -55,8 +58,9 @@ returns-2 c =
 returns-3 : tie.Need-returns-3
 unfolding load
 returns-3 c =
-    opened _ _ _ _ (c .before .before .before .before .before .reg .ensures) (c .before .before .before .before .if1 .left)
-    (nowhere _ _ _ _ _ _ (c .before .before .before .address .ensures) (c .before .before .find .ensures) (c .enum-told .given .1))
+    rw (c .refuse .ensures)
+    (opened _ _ _ _ (c .before .before .before .before .before .before .reg .ensures) (c .before .before .before .before .before .if1 .left)
+    (nowhere _ _ _ _ _ _ (c .before .before .before .before .address .ensures) (c .before .before .before .find .ensures) (c .before .enum-told .given .1)))
 
 pub load-spec : {M : Type 1} → statement M
 load-spec =
@@ -72,5 +76,6 @@ load-spec =
     put-reg-requires
     plus-requires
     enum-told
+    refuse-requires
     returns-2
     returns-3)

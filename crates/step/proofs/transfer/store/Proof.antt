@@ -44,6 +44,9 @@ plus-requires c κs = search needs
 enum-told : tie.Need-enum-told
 enum-told c = search needs
 
+refuse-requires : tie.Need-refuse-requires
+refuse-requires c κs = search needs
+
 same-length : tie.Need-same-length
 same-length c = search needs
 
@@ -62,8 +65,9 @@ returns-2 c =
 returns-3 : tie.Need-returns-3
 unfolding store
 returns-3 c =
-    opened _ _ _ _ (c .before .before .before .before .before .reg .ensures) (c .before .before .before .before .if1 .left)
-    (nowhere _ _ _ _ _ _ (c .before .before .before .address .ensures) (c .before .before .find .ensures) (c .enum-told .given .1))
+    rw (c .refuse .ensures)
+    (opened _ _ _ _ (c .before .before .before .before .before .before .reg .ensures) (c .before .before .before .before .before .if1 .left)
+    (nowhere _ _ _ _ _ _ (c .before .before .before .before .address .ensures) (c .before .before .before .find .ensures) (c .before .enum-told .given .1)))
 
 pub store-spec : {M : Type 1} → statement M
 store-spec =
@@ -79,6 +83,7 @@ store-spec =
     store-requires
     plus-requires
     enum-told
+    refuse-requires
     same-length
     same-length-2
     returns-2
