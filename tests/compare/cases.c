@@ -143,8 +143,8 @@ static void raw(struct start *s, uint64_t turn)
 static void extended(struct start *s)
 {
     static const uint16_t near[] = {0x07E0, 0x87E0, 0x0FE0, 0x07E1, 0x07F0, 0xFFFF, 0x87E1, 0x8FE0};
-    const uint32_t fields = dice(one_in(2) ? 32 : 8) << 11 | dice(32); /* system numbers are small */
-    const uint16_t first = one_in(3) ? ONE_OF(near) : (uint16_t)(0x07E0 | fields); /* thrown before the second */
+    const uint32_t reg2 = dice(one_in(2) ? 32 : 8), reg1 = dice(32); /* system numbers are small */
+    const uint16_t first = one_in(3) ? ONE_OF(near) : (uint16_t)(reg2 << 11 | 0x07E0 | reg1);
     single_words(s, first, any_second());
 }
 

@@ -1,6 +1,10 @@
 /*
  * The dice: one stream for each case, so that any case can be thrown again by
  * itself. SplitMix64: short, the same on every machine, good from any seed.
+ *
+ * C leaves it to the compiler which of two operands, arguments or initializers
+ * it works out first. So no expression throws in two of them: each throw gets
+ * a name of its own, in the order in which they are to fall.
  */
 #ifndef DICE_H
 #define DICE_H

@@ -99,7 +99,9 @@ static enum role ldsr_source(uint32_t number)
 
 struct second_insn any_insn(enum second_op op, uint32_t wild)
 {
-    struct second_insn i = {op, 0, 0, any_in(range_of(op)), any_number(op)};
+    struct second_insn i = {op, 0, 0, 0, 0};
+    i.value = any_in(range_of(op));
+    i.number = any_number(op);
     i.reg1 = any_register(op == SECOND_OP_JMP ? CODE : is_access(op) ? POINTER : one_in(4) ? CLEAN : DATA, wild);
     i.reg2 = any_register(op == SECOND_OP_LDSR ? ldsr_source(i.number) : DATA, wild);
     if (op == SECOND_OP_JARL && !one_in(wild)) i.reg2 = one_in(2) ? 31 : 0;

@@ -76,6 +76,18 @@ static void twin(uint32_t field, uint32_t by)
     add(to, field, by);
 }
 
+static void rights_above_7(uint32_t slot)
+{
+    const uint32_t high = 8u << dice(29), low = dice(8);
+    set(slot, V850_REGION_RIGHTS, high | low);
+}
+
+static void any_field(uint32_t slot)
+{
+    const uint32_t value = (uint32_t)dice_bits(), field = 4 * dice(4);
+    set(slot, field, value);
+}
+
 void edit_map(struct start *s, uint32_t which)
 {
     of = s;
@@ -94,7 +106,7 @@ void edit_map(struct start *s, uint32_t which)
     case 10: set(slot, V850_REGION_OFFSET, (uint32_t)of->length[MEMORY]); break;
     case 11: set(slot, V850_REGION_OFFSET, 0u - get(slot, V850_REGION_LENGTH) + dice(3)); break; /* wraps too */
     case 12: set(slot, V850_REGION_RIGHTS, 8); break;
-    case 13: set(slot, V850_REGION_RIGHTS, 8u << dice(29) | dice(8)); break;
+    case 13: rights_above_7(slot); break;
     case 14: set(slot, V850_REGION_RIGHTS, 0); break;
     case 15: set(slot, V850_REGION_RIGHTS, 7); break;
     case 16: set(slot, V850_REGION_LENGTH, 0); break;
@@ -110,6 +122,6 @@ void edit_map(struct start *s, uint32_t which)
     case 26: twin(V850_REGION_BASE, 0); break;
     case 27: twin(V850_REGION_BASE, 0x10000); break; /* the same offsets */
     case 28: twin(V850_REGION_OFFSET, get(slot, V850_REGION_LENGTH)); break; /* the same addresses */
-    default: set(slot, 4 * dice(4), (uint32_t)dice_bits()); break;
+    default: any_field(slot); break;
     }
 }

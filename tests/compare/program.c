@@ -149,11 +149,18 @@ static struct second_insn insn_at(const struct part *p, uint32_t pc)
 
 /* ---- A part ----------------------------------------------------------- */
 
+/* A first halfword of opcode 111111. */
+static uint32_t any_extended(void)
+{
+    const uint32_t reg2 = dice(32), reg1 = dice(32);
+    return reg2 << 11 | 0x07E0 | reg1;
+}
+
 /* Now and then words that are no instruction: the illegal code, or anything. */
 static uint32_t odd_words(uint32_t pc)
 {
     const bool illegal = vectors && !one_in(8);
-    poke(s, pc, (uint16_t)(illegal ? 0x07E0 | dice(32) << 11 | dice(32) : dice(0x10000)));
+    poke(s, pc, (uint16_t)(illegal ? any_extended() : dice(0x10000)));
     poke(s, pc + 2, (uint16_t)(illegal ? 0x0180 + 0x80 * dice(13) : dice(0x10000)));
     return 4;
 }
@@ -187,16 +194,31 @@ static void fill(const struct part *p)
 
 /* ---- The whole -------------------------------------------------------- */
 
-/* Pointers lead to data; ep to the start of some, as its displacements have no sign. */
+/* To the start of some data, as the displacements from ep have no sign. */
+static uint32_t any_ep(void)
+{
+    if (both.count == 0) return any_address();
+    const uint32_t from = both.part[dice(both.count)].from;
+    return from + dice(8);
+}
+
+/* Saved PCs may be odd. */
+static uint32_t any_return(void)
+{
+    const uint32_t entry = any_entry();
+    return entry | dice(2);
+}
+
+/* Pointers lead to data. */
 static void fit_registers(void)
 {
     for (uint32_t n = 16; n < 20; n++) set_word(s, V850_AT_R(n), dice(one_in(2) ? 8 : 256));
     for (uint32_t n = 20; n < 26; n++) set_word(s, V850_AT_R(n), any_place(one_in(2) ? &both : &readable));
     for (uint32_t n = 26; n < 32; n++) set_word(s, V850_AT_R(n), any_entry());
-    set_word(s, V850_AT_R(30), both.count > 0 ? both.part[dice(both.count)].from + dice(8) : any_address());
+    set_word(s, V850_AT_R(30), any_ep());
     set_word(s, V850_AT_PC, any_entry());
-    set_word(s, V850_AT_EIPC, any_entry() | dice(2));
-    set_word(s, V850_AT_FEPC, any_entry() | dice(2));
+    set_word(s, V850_AT_EIPC, any_return());
+    set_word(s, V850_AT_FEPC, any_return());
 }
 
 static void mark(uint32_t density)

@@ -86,6 +86,11 @@ void single_words(struct start *s, uint16_t first, uint16_t second)
     mark(s, pc);
 }
 
+static uint16_t one_bit_beside(uint16_t word)
+{
+    return (uint16_t)(word ^ 1u << dice(16));
+}
+
 uint16_t any_second(void)
 {
     static const uint16_t listed[] = {0x0000, 0x0020, 0x0040, 0x0080, 0x00A0, 0x00C0, 0x0100, 0x0120, 0x0140, 0x0160};
@@ -95,7 +100,7 @@ uint16_t any_second(void)
     case 1:
     case 2: return ONE_OF(listed);
     case 3:
-    case 4: return (uint16_t)(ONE_OF(listed) ^ 1u << dice(16)); /* one bit beside */
+    case 4: return one_bit_beside(ONE_OF(listed));
     case 5: return (uint16_t)(32 * dice(32));
     case 6: return any & 0x07E0;
     default: return any;

@@ -8,7 +8,8 @@ static void fill(uint8_t *at, size_t length)
 {
     while (length >= 8) {
         const uint64_t bits = dice_bits();
-        memcpy(at, &bits, 8); /* little-endian on every machine that this runs on */
+        put_word(at, (uint32_t)bits);
+        put_word(at + 4, (uint32_t)(bits >> 32));
         at += 8;
         length -= 8;
     }

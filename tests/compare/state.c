@@ -5,6 +5,13 @@
 #include "dice.h"
 #include "maps.h"
 
+/* Addresses have 24 bits, registers 32. */
+static uint32_t any_pointer(uint32_t high)
+{
+    const uint32_t address = any_address();
+    return address | (one_in(2) ? high : 0);
+}
+
 uint32_t any_value(void)
 {
     static const uint32_t corner[] = {
@@ -17,7 +24,7 @@ uint32_t any_value(void)
     case 1:
     case 2: return ONE_OF(corner);
     case 3: return dice(64) - 32;
-    case 4: return any_address() | (one_in(2) ? high : 0); /* addresses have 24 bits, registers 32 */
+    case 4: return any_pointer(high);
     case 5: return (uint32_t)dice_bits() & 0xFFFF0000; /* a divisor of 0 for DIVH */
     default: return (uint32_t)dice_bits();
     }
