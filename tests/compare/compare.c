@@ -20,7 +20,7 @@ static const struct subject library = {"v850", v850_run, v850_reset};
 static const struct subject second = {"second", second_run, second_reset};
 
 static uint64_t seed = 1;
-static bool showing = false;
+static bool showing = false, reset_differs = false;
 static struct start start, left, right;
 
 /* Where a difference was found, and how to see it again. */
@@ -93,8 +93,11 @@ static bool one_case(uint64_t number)
     start_copy(&left, &start);
     start_copy(&right, &start);
     show("start", NULL, &start);
-    if (tried.kind == RESETS && !same_reset(number, tried)) return false;
-    if (tried.kind == RESETS) start_copy(&start, &left);
+    if (tried.kind == RESETS) {
+        reset_differs = !same_reset(number, tried);
+        if (reset_differs) return false;
+        start_copy(&start, &left);
+    }
     tally_start(&start, tried);
     if (!same_run(number, tried, &answer)) return false;
     const bool ran = answer != SECOND_SIZE;
@@ -126,7 +129,8 @@ int main(int argc, char **argv)
     if (one != UINT64_MAX) {
         showing = true;
         const bool same = one_case(one);
-        show_parting(&start, &library, &second);
+        if (reset_differs) printf("They part in reset itself; no run was tried.\n");
+        else show_parting(&start, &library, &second);
         return !same;
     }
     for (uint64_t number = from; number < from + cases; number++)

@@ -106,25 +106,71 @@ static void print_instruction(struct start *s)
     printf("\n");
 }
 
+struct replay {
+    struct start *from;
+    const struct subject *a, *b;
+};
+static struct start x, y, before;
+static uint32_t left, right; /* answers */
+
+/* Both programs from the start with this budget; the results stay in x and y. */
+static bool differ(const struct replay *r, uint32_t budget)
+{
+    start_copy(&x, r->from);
+    start_copy(&y, r->from);
+    left = run_on(r->a, &x, budget);
+    right = run_on(r->b, &y, budget);
+    return left != right || memcmp(x.bytes, y.bytes, x.total) != 0;
+}
+
+/* They part here, and do not at one budget less. */
+static void show_where(const struct replay *r, uint32_t budget)
+{
+    if (budget > 0) (void)differ(r, budget - 1);
+    start_copy(&before, budget > 0 ? &y : r->from);
+    (void)differ(r, budget);
+    printf("They part at budget %u: %s answers %u, %s answers %u; before that\n", (unsigned)budget, r->a->name,
+           (unsigned)left, r->b->name, (unsigned)right);
+    if (before.length[BLOCK] == V850_BLOCK_LEN) {
+        print_block(&before);
+        if (budget > 0) print_instruction(&before);
+    }
+    (void)show_difference(&x, &y);
+}
+
+/* Each budget runs from the start, so the work grows with the square of how many are tried in turn. */
+#define IN_TURN 2000u
+
+/* The first budget at which they part, or at which both have ended by themselves, or the last that is tried in turn. */
+static uint32_t look_in_turn(const struct replay *r)
+{
+    uint32_t budget = 0;
+    while (!differ(r, budget) && left == V850_DONE && budget < r->from->budget && budget < IN_TURN) budget++;
+    return budget;
+}
+
+/* The same at one budget, and not at the other: the upper of two neighbours of which that is true. */
+static uint32_t halve(const struct replay *r, uint32_t same, uint32_t other)
+{
+    while (other - same > 1) {
+        const uint32_t middle = same + (other - same) / 2;
+        if (differ(r, middle)) other = middle;
+        else same = middle;
+    }
+    return other;
+}
+
 void show_parting(struct start *s, const struct subject *a, const struct subject *b)
 {
-    static struct start x, y, before;
-    start_copy(&before, s);
-    for (uint32_t budget = 0; budget <= s->budget; budget++) {
-        start_copy(&x, s);
-        start_copy(&y, s);
-        const uint32_t left = run_on(a, &x, budget), right = run_on(b, &y, budget);
-        if (left != right || memcmp(x.bytes, y.bytes, x.total) != 0) {
-            printf("They part at budget %u: %s answers %u, %s answers %u; before that\n", (unsigned)budget, a->name,
-                   (unsigned)left, b->name, (unsigned)right);
-            if (before.length[BLOCK] == V850_BLOCK_LEN) {
-                print_block(&before);
-                print_instruction(&before);
-            }
-            (void)show_difference(&x, &y);
-            return;
-        }
-        start_copy(&before, &y);
+    const struct replay r = {s, a, b};
+    const uint32_t tried = look_in_turn(&r);
+    if (differ(&r, tried)) {
+        show_where(&r, tried);
+        return;
     }
-    printf("They do not part.\n");
+    printf("They do not part up to budget %u, where both answer %u%s.\n", (unsigned)tried, (unsigned)left,
+           s->budget - tried > 1 ? "; not every budget above was tried" : "");
+    if (tried == s->budget) return;
+    if (differ(&r, s->budget)) show_where(&r, halve(&r, tried, s->budget));
+    else printf("Nor do they at budget %u.\n", (unsigned)s->budget);
 }

@@ -10,7 +10,10 @@ bool show_difference(struct start *a, struct start *b);
 /* Lengths, map, registers with their marks. */
 void show_start(struct start *s);
 
-/* Where two runs first part, and the instruction there. */
+/*
+ * Where two runs from this start part, and the instruction there: the first
+ * budget, if that is among those which are tried in turn, or one further up.
+ */
 void show_parting(struct start *s, const struct subject *a, const struct subject *b);
 
 #endif
