@@ -1,6 +1,7 @@
 /*
  * A small bench, by include/v850.h alone: puts an image at address 0, marks a
- * key, runs until the guest sleeps, raises an interrupt, and runs on.
+ * key, runs until the guest sleeps, raises an interrupt, and runs on. After
+ * each run it prints all that is still marked, as it may tell of the key.
  *
  *   host                          the built-in image, with a key of its own
  *   host IMAGE KEY-PLACE LENGTH   a flat image, and where its key lies (hex, decimal)
@@ -76,14 +77,43 @@ static int load(const char *name)
     return good;
 }
 
-/* Runs of mark bytes that are set, as addresses: all memory lies at 0. */
-static void print_marked(void)
+static void print_marked_bits(const char *psw, uint8_t bits)
 {
-    printf("marked:");
+    static const struct {
+        uint8_t bit;
+        const char *name;
+    } flag[] = {{V850_PSW_Z, "Z"},     {V850_PSW_S, "S"},   {V850_PSW_OV, "OV"}, {V850_PSW_CY, "CY"},
+                {V850_PSW_SAT, "SAT"}, {V850_PSW_ID, "ID"}, {V850_PSW_EP, "EP"}, {V850_PSW_NP, "NP"}};
+    for (size_t k = 0; k < sizeof flag / sizeof flag[0]; k++)
+        if (bits & flag[k].bit) printf(" %s.%s", psw, flag[k].name);
+}
+
+static void print_marked_registers(void)
+{
+    const uint32_t registers = get_word(block + V850_AT_REG_MARKS);
+    for (unsigned n = 0; n < 32; n++)
+        if (registers >> n & 1) printf(" r%u", n);
+    print_marked_bits("PSW", block[V850_AT_PSW_MARKS]);
+    print_marked_bits("EIPSW", block[V850_AT_EIPSW_MARKS]);
+    print_marked_bits("FEPSW", block[V850_AT_FEPSW_MARKS]);
+    if (block[V850_AT_PC_MARKS] & V850_MARK_EIPC) printf(" EIPC");
+    if (block[V850_AT_PC_MARKS] & V850_MARK_FEPC) printf(" FEPC");
+}
+
+/* Runs of mark bytes that are set, as addresses: all memory lies at 0. */
+static void print_marked_memory(void)
+{
     for (size_t at = 0, end; at < sizeof marks; at = end + 1) {
         for (end = at; end < sizeof marks && marks[end] != 0; end++) {}
         if (end > at) printf(" %06X-%06X", (unsigned)at, (unsigned)end - 1);
     }
+}
+
+static void print_marked(void)
+{
+    printf("marked:");
+    print_marked_registers();
+    print_marked_memory();
     printf("\n");
 }
 
