@@ -100,6 +100,14 @@ extern "C" {
 #define V850_RIGHT_WRITE 2u
 #define V850_RIGHT_FETCH 4u
 
+/*
+ * Region k as a part of the memory: the library's own view of it is a function
+ * of Rattle, as no entry for C can return a slice. For a host in C that part
+ * is the bytes from offset up to offset + length of the memory, as the block
+ * says, and none where the region is unused. This holds only of a map that
+ * passes MAP, so where v850_run with budget 0 answers neither SIZE nor MAP.
+ */
+
 /* Bits of PSW, EIPSW and FEPSW. */
 #define V850_PSW_Z 0x01u
 #define V850_PSW_S 0x02u
