@@ -1,4 +1,4 @@
-/* Checks the second program against numbers taken from 01 and 000 by hand. */
+/* Checks the second program against numbers taken from 01, 000 and 003 by hand. */
 #include "test.h"
 
 #include <stdio.h>

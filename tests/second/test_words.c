@@ -30,7 +30,7 @@ static void proved_numbers(void)
     is("07E0H 0180H", 0x07E0, 0x0180, SECOND_IS_ILLEGAL, 2);
 }
 
-/* The six sample words 5205 525F FDFA 07E0 0120, and one of each form. */
+/* The five halfwords of 01's sample, 5205 (above) 525F FDFA 07E0 0120, and one of each form. */
 static void forms(void)
 {
     decodes("525FH", 0x525F, 0, SECOND_OP_ADD_IMM5, 0, 10, -1, 0);
