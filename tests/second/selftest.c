@@ -18,21 +18,12 @@ void expect(const char *what, uint32_t got, uint32_t want)
     printf("FAILED %s: %08lX, wanted %08lX\n", what, (unsigned long)got, (unsigned long)want);
 }
 
-void set_word(size_t at, uint32_t value)
-{
-    for (unsigned k = 0; k < 4; k++) t.block[at + k] = (uint8_t)(value >> (8 * k));
-}
-
-static uint32_t word_in(const uint8_t *at)
-{
-    return (uint32_t)at[0] | (uint32_t)at[1] << 8 | (uint32_t)at[2] << 16 | (uint32_t)at[3] << 24;
-}
-
-uint32_t word(size_t at) { return word_in(t.block + at); }
+void set_word(size_t at, uint32_t value) { put_word(t.block + at, value); }
+uint32_t word(size_t at) { return get_word(t.block + at); }
 void set_r(uint32_t n, uint32_t value) { set_word(4 * n, value); }
 uint32_t r(uint32_t n) { return word(4 * n); }
-uint32_t steps(void) { return word_in(t.report); }
-uint32_t place(void) { return word_in(t.report + 4); }
+uint32_t steps(void) { return get_word(t.report); }
+uint32_t place(void) { return get_word(t.report + 4); }
 
 void set_region(uint32_t k, uint32_t base, uint32_t length, uint32_t offset, uint32_t rights)
 {
@@ -56,6 +47,15 @@ void code(uint32_t at, uint16_t h1, uint16_t h2)
     t.memory[at + 1] = (uint8_t)(h1 >> 8);
     t.memory[at + 2] = (uint8_t)h2;
     t.memory[at + 3] = (uint8_t)(h2 >> 8);
+}
+
+void fresh_with(uint16_t h1, uint16_t h2, uint32_t r1, uint32_t r2, uint32_t psw)
+{
+    fresh();
+    code(0x100, h1, h2);
+    set_r(1, r1);
+    set_r(2, r2);
+    set_word(B_PSW, psw);
 }
 
 uint32_t run(uint32_t budget)

@@ -28,16 +28,8 @@ static uint32_t dice(uint32_t sides)
 
 static uint32_t any_word(void) { return dice(65536) << 16 | dice(65536); }
 
-static void put(struct bench *b, size_t at, uint32_t value)
-{
-    for (unsigned k = 0; k < 4; k++) b->block[at + k] = (uint8_t)(value >> (8 * k));
-}
-
-static uint32_t get(const struct bench *b, size_t at)
-{
-    return (uint32_t)b->block[at] | (uint32_t)b->block[at + 1] << 8 | (uint32_t)b->block[at + 2] << 16 |
-           (uint32_t)b->block[at + 3] << 24;
-}
+static void put(struct bench *b, size_t at, uint32_t value) { put_word(b->block + at, value); }
+static uint32_t get(const struct bench *b, size_t at) { return get_word(b->block + at); }
 
 static void check(const char *what, bool good)
 {
@@ -158,12 +150,6 @@ static uint32_t run_on(struct bench *b, uint32_t budget)
                       b->report, sizeof b->report, budget);
 }
 
-static uint32_t report_word(const struct bench *b, size_t at)
-{
-    return (uint32_t)b->report[at] | (uint32_t)b->report[at + 1] << 8 | (uint32_t)b->report[at + 2] << 16 |
-           (uint32_t)b->report[at + 3] << 24;
-}
-
 static bool same_but_report(const struct bench *a, const struct bench *b)
 {
     return memcmp(a->block, b->block, sizeof a->block) == 0 &&
@@ -262,9 +248,9 @@ int main(int argc, char **argv)
         const uint32_t answer = run_on(&t, budget);
         second_stats = NULL;
         answers[answer]++;
-        steps += report_word(&t, 0);
+        steps += get_word(t.report);
         check("no MAP, STATE, SIZE", answer != SECOND_MAP && answer != SECOND_STATE && answer != SECOND_SIZE);
-        check("as many steps", one_by_one(budget, answer) == report_word(&t, 0));
+        check("as many steps", one_by_one(budget, answer) == get_word(t.report));
         shape();
         secrets_stay(budget, answer);
         digest = (fold(digest) ^ answer) * 0x100000001B3u;

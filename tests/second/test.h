@@ -31,8 +31,21 @@ struct bench {
 
 extern struct bench t; /* the bench in use */
 
+/* Little-endian words of block and report. */
+static inline uint32_t get_word(const uint8_t *at)
+{
+    return (uint32_t)at[0] | (uint32_t)at[1] << 8 | (uint32_t)at[2] << 16 | (uint32_t)at[3] << 24;
+}
+
+static inline void put_word(uint8_t *at, uint32_t value)
+{
+    for (unsigned k = 0; k < 4; k++) at[k] = (uint8_t)(value >> (8 * k));
+}
+
 /* Reset, all of memory at address 0 with all rights, PC 100H, PSW 0. */
 void fresh(void);
+/* The same with one instruction at PC, and what it reads. */
+void fresh_with(uint16_t h1, uint16_t h2, uint32_t r1, uint32_t r2, uint32_t psw);
 void set_word(size_t at, uint32_t word);
 uint32_t word(size_t at);
 void set_r(uint32_t n, uint32_t value);

@@ -55,11 +55,7 @@ static void all_rows(void)
 {
     for (size_t k = 0; k < sizeof rows / sizeof rows[0]; k++) {
         const struct row *x = &rows[k];
-        fresh();
-        code(0x100, x->h1, x->h2);
-        set_r(1, x->r1);
-        set_r(2, x->r2);
-        set_word(B_PSW, x->psw);
+        fresh_with(x->h1, x->h2, x->r1, x->r2, x->psw);
         set_word(B_REG_MARKS, x->marks);
         t.block[B_PSW_MARKS] = (uint8_t)x->psw_marks;
         expect(x->what, run(1), SECOND_DONE);

@@ -77,11 +77,7 @@ static void all_rows(void)
 {
     for (size_t k = 0; k < sizeof rows / sizeof rows[0]; k++) {
         const struct row *x = &rows[k];
-        fresh();
-        code(0x100, x->h1, x->h2);
-        set_r(1, x->r1);
-        set_r(2, x->r2);
-        set_word(B_PSW, x->psw);
+        fresh_with(x->h1, x->h2, x->r1, x->r2, x->psw);
         expect(x->what, run(1), SECOND_DONE);
         expect(x->what, r(1), x->r1);
         expect(x->what, r(2), x->want_r2);
