@@ -1,6 +1,7 @@
 /*
- * Runs an image at address 0 from reset, REPEATS times from the start, and
- * prints how the last run ended and the shortest time of one.
+ * Runs an image at address 0 REPEATS times, each from reset, and prints how the
+ * last run ended and the shortest time of one. The memory is loaded once: each
+ * further run finds it as the one before left it.
  *
  *   speed v850|second IMAGE MEMORY BUDGET REPEATS [registers]
  */

@@ -57,7 +57,7 @@ echo
 echo "A run of 100 steps of alu, and what of its instructions is not steps (entry and exit):"
 for memory in 4096 65536; do
     a=$(run_cost v850 $memory) b=$(run_cost second $memory)
-    printf '%6s bytes of memory: v850 %s instructions (%s), %s ns%s; second %s (%s), %s ns\n' $memory \
+    printf '%6s bytes of memory: v850 %s instructions (%s), %s ns%s; second %s (%s), %s ns%s\n' $memory \
         "$a" "$(per 1 "$(ratio "$ours" 0.01)" "$a")" "$(run_ns v850 $memory)" "$emulated" \
-        "$b" "$(per 1 "$(ratio "$theirs" 0.01)" "$b")" "$(run_ns second $memory)"
+        "$b" "$(per 1 "$(ratio "$theirs" 0.01)" "$b")" "$(run_ns second $memory)" "$emulated"
 done
