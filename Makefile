@@ -35,7 +35,8 @@ setup:
 # The header by itself, as C and, where there is a compiler for it, as C++.
 header:
 	@cc -std=c11 $(WARN) -fsyntax-only -x c include/v850.h
-	@! command -v c++ >/dev/null || c++ -std=c++17 $(WARN) -fsyntax-only -x c++ include/v850.h
+	@if command -v c++ >/dev/null; then c++ -std=c++17 $(WARN) -fsyntax-only -x c++ include/v850.h; \
+		else echo "include/v850.h: not tried as C++17, as there is no c++"; fi
 
 compare: setup library
 	@$(SUB) -C tests/compare run LIBRARY=$(LIBRARY)
