@@ -59,16 +59,24 @@ static void print_answers(void)
     printf("\n");
 }
 
+/* A name in a table of three columns; no blanks at a line's end, so that a page can quote it as it is. */
+static void print_name(const char *name, int width, int k, int count)
+{
+    const bool ends = k % 3 == 2 || k + 1 == count;
+    printf("%-*s%s", ends ? 0 : width, name, ends ? "\n" : " ");
+}
+
 static void print_stats(void)
 {
-    for (int op = 0; op < SECOND_OP_COUNT; op++)
-        printf("%9llu %-28s%s", (big)tally.stats.executed[op], second_op_name((enum second_op)op),
-               op % 3 == 2 ? "\n" : " ");
-    printf("\n");
-    for (int c = 0; c < SECOND_LEAK_COUNT; c++)
-        printf("%9llu LEAK: %-22s%s", (big)tally.stats.leak[c], second_leak_name((enum second_leak)c),
-               c % 3 == 2 ? "\n" : " ");
-    printf("\n%9llu NMIs accepted, %llu maskable requests accepted, %llu illegal codes\n", (big)tally.stats.nmi,
+    for (int op = 0; op < SECOND_OP_COUNT; op++) {
+        printf("%9llu ", (big)tally.stats.executed[op]);
+        print_name(second_op_name((enum second_op)op), 28, op, SECOND_OP_COUNT);
+    }
+    for (int c = 0; c < SECOND_LEAK_COUNT; c++) {
+        printf("%9llu LEAK: ", (big)tally.stats.leak[c]);
+        print_name(second_leak_name((enum second_leak)c), 22, c, SECOND_LEAK_COUNT);
+    }
+    printf("%9llu NMIs accepted, %llu maskable requests accepted, %llu illegal codes\n", (big)tally.stats.nmi,
            (big)tally.stats.maskable, (big)tally.stats.illegal);
 }
 
