@@ -115,7 +115,7 @@ static bool option(const char *word, const char *name, uint64_t *value)
 
 int main(int argc, char **argv)
 {
-    uint64_t cases = 100000, from = 0, one = UINT64_MAX;
+    uint64_t cases = 300000, from = 0, one = UINT64_MAX; /* fewer have not every first halfword */
     bool brief = false;
     for (int k = 1; k < argc; k++) {
         if (option(argv[k], "cases=", &cases) || option(argv[k], "seed=", &seed) ||
