@@ -4,6 +4,7 @@ pub mod BlockLaws
 pub mod Entry
 pub mod Handed
 pub mod EntryLaws
+pub mod View
 pub mod AlikeStarts
 pub mod SecrecyLaws
 pub mod Secrecy
