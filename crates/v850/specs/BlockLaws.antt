@@ -7,7 +7,7 @@ use native.Mathlib.Omega.{arith}
 use native.Mathlib.Nat.{lt-of-lt-of-le}
 use lib.Dec.{eqb, ltb, leb}
 use lib.Pow.{pow-mono, shr-shr}
-use lib.ListN.{length, getD, take, drop, length-take, length-append, take-append-drop, drop-of-length-le, List·getD-eq-default, List·getD-append}
+use lib.ListN.{length, getD, take, drop, length-take, length-drop, length-append, take-append-drop, drop-of-length-le, List·getD-eq-default, List·getD-append}
 use lib.Seq.{length-take-le, take-at, getD-take, getD-drop, getD-append-add, drop-append-add, drop-cons, slice-cons, length-slice}
 use borrow.Author.Tests.{ltb-true, ltb-false, lt-ltb, leb-true, le-leb, eqb-true, eq-eqb}
 use Rattle.machine.specs.declared.Open.{Open}
@@ -18,6 +18,13 @@ use Rattle.machine.specs.InvariantLaws.{code-target}
 use Rattle.machine.specs.Invariants.{reset-well-formed}
 use Rattle.v850.specs.Block.{bytesOfWord, bitsFrom, packBits, byte, atPC, atPSW, atEIPC, atEIPSW, atFEPC, atFEPSW, atECR, atCode, atWaits, atRegMarks, atSysMarks, atMap, WORDS, mapIn, coreIn, numsIn, marksIn, cellsIn, wordsOf, goodState}
 use Rattle.v850.specs.PackLaws.{Below, below-append, below-cons, below-take, whole, parts, pack-lt, bits-length, bits-below, bits-pack, pack-bits}
+
+-- the map in a block's words
+pub map-long : (ws : List ℕ) → length ws ≡ WORDS → length (mapIn ws) ≡ 16
+map-long ws h = omega (arith, length-drop atMap ws)
+
+pub map-words : {ws : List ℕ} → Below (2 ^ 32) ws → Below (2 ^ 32) (mapIn ws)
+map-words {ws} h = record { at = λ i. rw (getD-drop atMap ws i 0) (h .at (atMap + i)) }
 
 -- marks of registers and of saved PCs are 0 or 1
 pub record Marks (m : List ℕ) : Type 0 where

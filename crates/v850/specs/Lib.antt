@@ -5,6 +5,7 @@ pub mod Entry
 pub mod Handed
 pub mod EntryLaws
 pub mod View
+pub mod Resets
 pub mod AlikeStarts
 pub mod SecrecyLaws
 pub mod Secrecy

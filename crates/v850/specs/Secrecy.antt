@@ -17,10 +17,10 @@ use Rattle.machine.specs.Alike.{bitCells, noBitCells, Alike, AlikeEnds}
 use Rattle.machine.specs.Secrecy.{secrecy}
 use Rattle.v850.specs.Block.{bytesOf, wordsFrom, BYTES, WORDS, mapIn, coreIn, cellsIn, wordsOf, goodState}
 use Rattle.v850.specs.PackLaws.{Below, words-length, words-bytes, words-below}
-use Rattle.v850.specs.BlockLaws.{apart-together}
+use Rattle.v850.specs.BlockLaws.{map-long, map-words, apart-together}
 use Rattle.v850.specs.Entry.{MEMORY, REPORT, goodSizes, wordsIn, finished, called}
 use Rattle.v850.specs.AlikeStarts.{AlikeWords, AlikeMemories, Passes, AlikeLeft}
-use Rattle.v850.specs.SecrecyLaws.{Good, formed, map-long, map-words, together-good, map-same, core-same, cells-alike, words-alike}
+use Rattle.v850.specs.SecrecyLaws.{Good, formed, together-good, map-same, core-same, cells-alike, words-alike}
 
 -- the end of the run of a call that passes, from the words of its block
 abbrev pub runOf : ℕ → List ℕ → List ℕ → List ℕ → Ended
@@ -101,9 +101,9 @@ pub run-secrecy : (budget : ℕ) {block memory marks report block′ memory′ m
     → Passes block memory marks report → Passes block′ memory′ marks′ report′
     → AlikeWords (wordsIn block) (wordsIn block′) → AlikeMemories memory marks memory′ marks′
     → AlikeLeft (called block memory marks report budget) (called block′ memory′ marks′ report′ budget)
-run-secrecy budget {marks = marks} {marks′ = marks′} hb hm hb′ hm′ p p′ a m =
+run-secrecy budget {block = block} {marks = marks} {marks′ = marks′} hb hm hb′ hm′ p p′ a m =
     let f = good-words p hb in
     let g = good-words p′ hb′ in
     let ends = same-start budget (map-same f g a) (core-same f g a) (cells-alike f g a) (memories p m) in
-    let left = finished-alike (map-same f g a) (map-long f) (map-words f) (ends-formed budget marks f hm) (ends-formed budget marks′ g hm′) ends in
+    let left = finished-alike (map-same f g a) (map-long (wordsIn block) (f .long)) (map-words (f .words)) (ends-formed budget marks f hm) (ends-formed budget marks′ g hm′) ends in
     rw (called-passes p budget, called-passes p′ budget) left

@@ -19,7 +19,7 @@ use Rattle.machine.specs.WellFormed.{WellFormed}
 use Rattle.machine.specs.Alike.{bitCells, Alike}
 use Rattle.v850.specs.Block.{WORDS, atPSW, atEIPC, atEIPSW, atFEPC, atFEPSW, atWaits, atRegMarks, atSysMarks, atMap, byte, bitsFrom, packBits, mapIn, coreIn, numsIn, marksIn, cellsIn, wordsOf, goodState}
 use Rattle.v850.specs.PackLaws.{Below, bits-length}
-use Rattle.v850.specs.BlockLaws.{sysMarks, passed, formed-words, formed-good-state, good-state-formed, together-apart}
+use Rattle.v850.specs.BlockLaws.{map-long, sysMarks, passed, formed-words, formed-good-state, good-state-formed, together-apart}
 use Rattle.v850.specs.AlikeStarts.{AlikeWords}
 
 -- the words of a block that passes STATE
@@ -30,12 +30,6 @@ pub record Good (ws : List ℕ) : Type 0 where
 
 pub formed : {ws : List ℕ} → Good ws → WellFormed (coreIn ws) (cellsIn ws)
 formed {ws} g = good-state-formed ws (g .long) (g .words) (g .state)
-
-pub map-long : {ws : List ℕ} → Good ws → length (mapIn ws) ≡ 16
-map-long {ws} g = omega (arith, length-drop atMap ws, g .long)
-
-pub map-words : {ws : List ℕ} → Good ws → Below (2 ^ 32) (mapIn ws)
-map-words {ws} g = record { at = λ i. rw (getD-drop atMap ws i 0) (g .words .at (atMap + i)) }
 
 pub together-good : (o : Open) (c : Cells) (map : List ℕ) → WellFormed o c → length map ≡ 16 → Below (2 ^ 32) map → Good (wordsOf o c map)
 together-good o c map w l h =
@@ -185,7 +179,7 @@ psw-whole m x y id ep np f k l e = go (ltb k 5) refl
 module _ {v w : List ℕ} (f : Good v) (g : Good w) (h : AlikeWords v w) where
   pub map-same : mapIn v ≡ mapIn w
   map-same =
-      ext-getD 0 (mapIn v) (mapIn w) (map-long f ∙ sym (map-long g)) λ i l.
+      ext-getD 0 (mapIn v) (mapIn w) (map-long v (f .long) ∙ sym (map-long w (g .long))) λ i l.
       getD-drop atMap v i 0 ∙ h .map (atMap + i) (omega arith) ∙ sym (getD-drop atMap w i 0)
 
   mode-same : (k : ℕ) → 5 ≤ k → k < 8 → getD v atPSW 0 / 2 ^ k % 2 ≡ getD w atPSW 0 / 2 ^ k % 2

@@ -36,9 +36,6 @@ const SYS_MARKS: usize = 42;
 
 pub const MAP: usize = 43;
 
-// PSW after reset: ID is set.
-const RESET_PSW: u32 = 0x20;
-
 // And of the report.
 pub const STEPS: usize = 0;
 
@@ -56,6 +53,9 @@ const CELL_FEPSW: usize = 35;
 const CELL_ECR: usize = 36;
 
 const CELL_PSW: usize = 37;
+
+// PSW after reset: ID is set.
+const RESET_PSW: u32 = 0x20;
 
 // A byte as a word.
 fn wide(x: u8) -> u32
