@@ -2,12 +2,12 @@
 use mathlib.Core.Path.{_≡_}
 use mathlib.Core.Bool.{false, true}
 use mathlib.Core.List.{List}
-use Prim.Native.Nat.{ℕ, _+_, _<_, _≤_}
+use Prim.Native.Nat.{ℕ, _<_, _≤_}
 use lib.ListN.{getD, length}
 use Rattle.word.specs.Shifts.{bit}
 use Rattle.machine.specs.Marked.{marked}
 use Rattle.machine.specs.Regions.{goodMap}
-use Rattle.v850.specs.Block.{WORDS, atPC, atPSW, atEIPC, atEIPSW, atFEPC, atFEPSW, atECR, atCode, atWaits, atRegMarks, atSysMarks, atMap, byte, mapIn, goodState}
+use Rattle.v850.specs.Block.{atPC, atPSW, atEIPC, atEIPSW, atFEPC, atFEPSW, atECR, atCode, atWaits, atRegMarks, atSysMarks, atMap, byte, mapIn, goodState}
 use Rattle.v850.specs.Entry.{Left, goodSizes, wordsIn}
 
 -- word i of the one block and of the other are equal

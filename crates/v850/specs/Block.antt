@@ -1,12 +1,12 @@
 -- The block of 236 bytes: 59 little-endian words. Its layout is said here, once: taken apart, and put together.
-use mathlib.Core.Bool.{Bool, cond, _&&_, _||_, not}
+use mathlib.Core.Bool.{Bool, _&&_}
 use mathlib.Core.List.{List, [], _∷_, _++_}
 use Prim.Native.Nat.{ℕ, zero, suc, _+_, _*_, _/_, _%_, _^_}
 use lib.Dec.{eqb, ltb, leb}
 use lib.ListN.{getD, take, drop}
 use Rattle.machine.specs.declared.Open.{Open}
 use Rattle.machine.specs.Marked.{Cells, both}
-use Rattle.machine.specs.Psw.{sys, EIPC, EIPSW, FEPC, FEPSW, PSW, bitsAt, psw}
+use Rattle.machine.specs.Psw.{sys, EIPC, EIPSW, FEPC, FEPSW, psw}
 use Rattle.machine.specs.WellFormed.{goodCode}
 
 -- Words as bytes, and bytes as words

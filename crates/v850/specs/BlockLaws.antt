@@ -1,13 +1,13 @@
 -- The block taken apart and put together: each undoes the other, for blocks that pass the tests of STATE.
 use mathlib.Core.Path.{_≡_, refl, sym, ap, ap₂, _∙_, subst}
-use mathlib.Core.Bool.{Bool, true, false, cond, _&&_}
+use mathlib.Core.Bool.{Bool, true, false, _&&_}
 use mathlib.Core.List.{List, [], _∷_, _++_}
 use Prim.Native.Nat.{ℕ, zero, suc, _+_, _-_, _*_, _/_, _%_, _^_, _≤_, _<_}
 use native.Mathlib.Omega.{arith}
 use native.Mathlib.Nat.{lt-of-lt-of-le}
-use lib.Dec.{eqb, ltb, leb}
+use lib.Dec.{ltb}
 use lib.Pow.{pow-mono, shr-shr}
-use lib.ListN.{length, getD, take, drop, length-take, length-drop, length-append, take-append-drop, drop-of-length-le, List·getD-eq-default, List·getD-append}
+use lib.ListN.{length, getD, take, drop, length-drop, length-append, take-append-drop, drop-of-length-le, List·getD-append}
 use lib.Seq.{length-take-le, take-at, getD-take, getD-drop, getD-append-add, drop-append-add, drop-cons, slice-cons, length-slice}
 use borrow.Author.Tests.{ltb-true, ltb-false, lt-ltb, leb-true, le-leb, eqb-true, eq-eqb}
 use Rattle.machine.specs.declared.Open.{Open}
@@ -16,7 +16,7 @@ use Rattle.machine.specs.Psw.{sys, EIPC, EIPSW, FEPC, FEPSW, PSW, psw}
 use Rattle.machine.specs.WellFormed.{WellFormed, limit, markLimit, goodCode}
 use Rattle.machine.specs.InvariantLaws.{code-target}
 use Rattle.machine.specs.Invariants.{reset-well-formed}
-use Rattle.v850.specs.Block.{bytesOfWord, bitsFrom, packBits, byte, atPC, atPSW, atEIPC, atEIPSW, atFEPC, atFEPSW, atECR, atCode, atWaits, atRegMarks, atSysMarks, atMap, WORDS, mapIn, coreIn, numsIn, marksIn, cellsIn, wordsOf, goodState}
+use Rattle.v850.specs.Block.{bitsFrom, packBits, byte, atPC, atPSW, atEIPC, atEIPSW, atFEPC, atFEPSW, atECR, atCode, atWaits, atRegMarks, atSysMarks, atMap, WORDS, mapIn, coreIn, numsIn, marksIn, cellsIn, wordsOf, goodState}
 use Rattle.v850.specs.PackLaws.{Below, below-append, below-cons, below-take, whole, parts, pack-lt, bits-length, bits-below, bits-pack, pack-bits}
 
 -- the map in a block's words

@@ -1,5 +1,5 @@
 -- How a call ends, test by test: what the code knows at each of its returns is what the definition says.
-use mathlib.Core.Path.{_≡_, refl, sym, ap, _∙_, subst}
+use mathlib.Core.Path.{_≡_, sym, ap, _∙_, subst}
 use mathlib.Core.Bool.{true, false}
 use mathlib.Core.List.{List, [], _∷_}
 use Prim.Native.Nat.{ℕ, _≤_, _^_}
@@ -11,7 +11,7 @@ use Rattle.machine.specs.declared.Answer.the-variants.{Size, Map, State}
 use Rattle.machine.specs.Marked.{both}
 use Rattle.machine.specs.Regions.{goodMap}
 use Rattle.machine.specs.Run.{number, Ended, run}
-use Rattle.machine.specs.WellFormed.{WellFormed, Bytes}
+use Rattle.machine.specs.WellFormed.{WellFormed}
 use Rattle.machine.specs.Invariants.{run-well-formed}
 use Rattle.step.specs.Tasks.{Ready}
 use Rattle.v850.specs.Block.{bytesOf, BYTES, mapIn, coreIn, numsIn, marksIn, wordsOf, goodState}

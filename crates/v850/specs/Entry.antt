@@ -1,9 +1,9 @@
 -- The entries, from bytes to bytes: the answer, and every byte of what was lent.
 use mathlib.Core.Bool.{Bool, cond, _&&_}
 use mathlib.Core.List.{List, [], _∷_}
-use Prim.Native.Nat.{ℕ, _*_, _^_}
-use lib.Dec.{eqb, ltb, leb}
-use lib.ListN.{getD, length, take, drop, replicate}
+use Prim.Native.Nat.{ℕ}
+use lib.Dec.{eqb, leb}
+use lib.ListN.{length, take, drop, replicate}
 use Rattle.machine.specs.declared.Answer.{Answer}
 use Rattle.machine.specs.declared.Answer.the-variants.{Done, Size, Map, State}
 use Rattle.machine.specs.Marked.{both}

@@ -1,18 +1,15 @@
 -- The entries' contracts leave no choice: any two outcomes that one allows are equal. And what the region view hands out lies in memory.
-use mathlib.Core.Path.{_≡_, refl, sym, ap, _∙_}
-use mathlib.Core.Bool.{Bool, true, false, cond, _&&_}
+use mathlib.Core.Path.{_≡_, refl, sym, _∙_}
+use mathlib.Core.Bool.{Bool, true, false, _&&_}
 use mathlib.Core.List.{List, []}
 use Prim.Native.Nat.{ℕ, _+_, _-_, _≤_, _<_}
 use native.Mathlib.Omega.{arith}
 use lib.Dec.{eqb, leb}
-use lib.ListN.{length, take, drop, getD}
-use borrow.Author.Tests.{eqb-true, eqb-false, eq-eqb, le-leb}
-use Rattle.machine.specs.Run.{resetOpen, resetCells}
-use Rattle.machine.specs.Invariants.{reset-well-formed}
-use Rattle.machine.specs.Regions.{goodMap, goodRegion, base, offset, size, unused, bounded}
+use lib.ListN.{length, take, drop}
+use borrow.Author.Tests.{eqb-true, eqb-false}
+use Rattle.machine.specs.Regions.{goodMap, goodRegion, base, offset, size, unused}
 use Rattle.machine.specs.RegionLaws.{and-true, used, good-at}
-use Rattle.v850.specs.Block.{BYTES, mapIn, wordsOf, goodState}
-use Rattle.v850.specs.BlockLaws.{apart-together, formed-good-state, formed-words}
+use Rattle.v850.specs.Block.{BYTES, mapIn}
 use Rattle.v850.specs.Entry.{MEMORY, wordsIn, Reset, reset, handed, view}
 use Rattle.v850.specs.Handed.{viewFrom, onBy}
 

@@ -1,7 +1,7 @@
 // What a host calls. Each entry tests its own arguments, and needs nothing of its caller.
 ghost use mathlib.Core.Path.{_≡_};
 ghost use Rattle.machine.specs.Run.{number};
-ghost use Rattle.v850.specs.Entry.{Left, called, Reset, reset, view};
+ghost use Rattle.v850.specs.Entry.{called, reset, view};
 ghost use Rattle.v850.specs.Handed.{viewFrom, onBy};
 use crate::block;
 use machine::Answer;

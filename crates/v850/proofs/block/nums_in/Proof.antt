@@ -1,10 +1,9 @@
-use mathlib.Core.Path.{refl, ap, _∙_}
-use mathlib.Core.List.{List, _++_}
-use Prim.Native.Nat.{ℕ, _-_}
+use mathlib.Core.Path.{refl}
+use Prim.Native.Nat.{_-_}
 use native.Mathlib.Omega.{arith}
 use borrow.Author.Needs.{needs}
 use lib.ListN.{take}
-use Rattle.v850.proofs.Fill.{Filled, filled-none, filled-next, filled-part, take-more, stored-all, six-stored}
+use Rattle.v850.proofs.Fill.{Filled, filled-none, filled-next, filled-part, take-more, six-stored}
 use Rattle.v850.proofs.block.nums_in.Statement.{statement}
 use Rattle.v850.proofs.block.nums_in.Tie as tie
 
