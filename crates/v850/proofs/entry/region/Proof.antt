@@ -21,7 +21,7 @@ part-memory-end : tie.Need-part-memory-end
 part-memory-end c = search needs
 
 returns : tie.Need-returns
-returns c = view-none (c .before .before .before .before .args .block .now) (c .before .before .before .before .args .memory .now) (c .before .before .before .before .args .k) (c .before .before .before .before .args .memory .ptr) (handed-by (c .before .before .before .before .args .block .now) (c .before .before .before .before .args .memory .now) (c .before .before .before .before .args .k) (lt-leb _ _ (c .before .if1 .taken)) refl refl refl)
+returns c = view-none (c .before .before .before .before .args .block .now) (c .before .before .before .before .args .memory .now) (c .before .before .before .before .args .k) (c .before .before .before .before .args .memory .ptr) (handed-by (c .before .before .before .before .args .block .now) (c .before .before .before .before .args .memory .now) (c .before .before .before .before .args .k) (lt-leb (c .before .before .before .before .args .k) 3 (omega (arith, c .before .if1 .taken))) refl refl refl)
 
 sub-result-2 : tie.Need-sub-result-2
 sub-result-2 c = search needs
@@ -33,7 +33,7 @@ part-memory-end-2 : tie.Need-part-memory-end-2
 part-memory-end-2 c = search needs
 
 returns-2 : tie.Need-returns-2
-returns-2 c = view-none (c .before .before .before .before .before .args .block .now) (c .before .before .before .before .before .args .memory .now) (c .before .before .before .before .before .args .k) (c .before .before .before .before .before .args .memory .ptr) (handed-by (c .before .before .before .before .before .args .block .now) (c .before .before .before .before .before .args .memory .now) (c .before .before .before .before .before .args .k) (le-leb _ _ (c .before .before .if1 .left)) (ne-eqb _ _ (c .before .if2 .taken)) refl refl)
+returns-2 c = view-none (c .before .before .before .before .before .args .block .now) (c .before .before .before .before .before .args .memory .now) (c .before .before .before .before .before .args .k) (c .before .before .before .before .before .args .memory .ptr) (handed-by (c .before .before .before .before .before .args .block .now) (c .before .before .before .before .before .args .memory .now) (c .before .before .before .before .before .args .k) (le-leb (c .before .before .before .before .before .args .k) 3 (omega (arith, c .before .before .if1 .left))) (ne-eqb _ _ (c .before .if2 .taken)) refl refl)
 
 sub-result-3 : tie.Need-sub-result-3
 sub-result-3 c = search needs
@@ -45,7 +45,7 @@ part-memory-end-3 : tie.Need-part-memory-end-3
 part-memory-end-3 c = search needs
 
 returns-3 : tie.Need-returns-3
-returns-3 c = view-none (c .before .before .before .before .before .before .args .block .now) (c .before .before .before .before .before .before .args .memory .now) (c .before .before .before .before .before .before .args .k) (c .before .before .before .before .before .before .args .memory .ptr) (handed-by (c .before .before .before .before .before .before .args .block .now) (c .before .before .before .before .before .before .args .memory .now) (c .before .before .before .before .before .before .args .k) (le-leb _ _ (c .before .before .before .if1 .left)) (eq-eqb _ _ (c .before .before .if2 .left)) (lt-leb _ _ (c .before .if3 .taken)) refl)
+returns-3 c = view-none (c .before .before .before .before .before .before .args .block .now) (c .before .before .before .before .before .before .args .memory .now) (c .before .before .before .before .before .before .args .k) (c .before .before .before .before .before .before .args .memory .ptr) (handed-by (c .before .before .before .before .before .before .args .block .now) (c .before .before .before .before .before .before .args .memory .now) (c .before .before .before .before .before .before .args .k) (le-leb (c .before .before .before .before .before .before .args .k) 3 (omega (arith, c .before .before .before .if1 .left))) (eq-eqb _ _ (c .before .before .if2 .left)) (lt-leb _ _ (c .before .if3 .taken)) refl)
 
 words-requires : tie.Need-words-requires
 words-requires c κs = search needs
@@ -66,7 +66,7 @@ part-memory-end-4 : tie.Need-part-memory-end-4
 part-memory-end-4 c = search needs
 
 returns-4 : tie.Need-returns-4
-returns-4 c = view-none (c .before .before .before .before .before .before .before .before .before .before .before .before .args .block .now) (c .before .before .before .before .before .before .before .before .before .before .before .before .args .memory .now) (c .before .before .before .before .before .before .before .before .before .before .before .before .args .k) (c .before .before .before .before .before .before .before .before .before .before .before .before .args .memory .ptr) (handed-by (c .before .before .before .before .before .before .before .before .before .before .before .before .args .block .now) (c .before .before .before .before .before .before .before .before .before .before .before .before .args .memory .now) (c .before .before .before .before .before .before .before .before .before .before .before .before .args .k) (le-leb _ _ (c .before .before .before .before .before .before .before .before .before .if1 .left)) (eq-eqb _ _ (c .before .before .before .before .before .before .before .before .if2 .left)) (le-leb _ _ (c .before .before .before .before .before .before .before .if3 .left)) (ap (λ (m : List ℕ). goodMap m (length (c .before .before .before .before .before .before .before .before .before .before .before .before .args .memory .now))) (sym (c .before .before .before .before .map-in .ensures ∙ ap mapIn (c .before .before .before .before .before .before .words .ensures))) ∙ sym (c .before .before .good-map .ensures) ∙ not-true _ (c .before .if4 .taken)))
+returns-4 c = view-none (c .before .before .before .before .before .before .before .before .before .before .before .before .args .block .now) (c .before .before .before .before .before .before .before .before .before .before .before .before .args .memory .now) (c .before .before .before .before .before .before .before .before .before .before .before .before .args .k) (c .before .before .before .before .before .before .before .before .before .before .before .before .args .memory .ptr) (handed-by (c .before .before .before .before .before .before .before .before .before .before .before .before .args .block .now) (c .before .before .before .before .before .before .before .before .before .before .before .before .args .memory .now) (c .before .before .before .before .before .before .before .before .before .before .before .before .args .k) (le-leb (c .before .before .before .before .before .before .before .before .before .before .before .before .args .k) 3 (omega (arith, c .before .before .before .before .before .before .before .before .before .if1 .left))) (eq-eqb _ _ (c .before .before .before .before .before .before .before .before .if2 .left)) (le-leb _ _ (c .before .before .before .before .before .before .before .if3 .left)) (ap (λ (m : List ℕ). goodMap m (length (c .before .before .before .before .before .before .before .before .before .before .before .before .args .memory .now))) (sym (c .before .before .before .before .map-in .ensures ∙ ap mapIn (c .before .before .before .before .before .before .words .ensures))) ∙ sym (c .before .before .good-map .ensures) ∙ not-true _ (c .before .if4 .taken)))
 
 offset-requires : tie.Need-offset-requires
 offset-requires c κs = search needs
@@ -93,7 +93,7 @@ part-memory-end-5 : tie.Need-part-memory-end-5
 part-memory-end-5 c = omega (arith, region-fits (c .before .before .before .before .before .before .before .map-in .result) (length (c .before .before .before .before .before .before .before .before .before .before .before .before .before .before .before .args .memory .now)) (c .before .before .before .before .before .before .before .before .before .before .before .before .before .before .before .args .k) (sym (c .before .before .before .before .before .good-map .ensures) ∙ not-false _ (c .before .before .before .before .if4 .left)) (omega arith), c .before .before .offset .ensures, c .size .ensures)
 
 returns-5 : tie.Need-returns-5
-returns-5 c = view-given (c .before .before .before .before .before .before .before .before .before .before .before .before .before .before .before .before .args .block .now) (c .before .before .before .before .before .before .before .before .before .before .before .before .before .before .before .before .args .memory .now) (c .before .before .before .before .before .before .before .before .map-in .result) (c .before .before .before .before .before .before .before .before .before .before .before .before .before .before .before .before .args .k) _ _ (c .before .before .before .before .before .before .before .before .before .before .before .before .before .before .before .before .args .memory .ptr) (handed-by (c .before .before .before .before .before .before .before .before .before .before .before .before .before .before .before .before .args .block .now) (c .before .before .before .before .before .before .before .before .before .before .before .before .before .before .before .before .args .memory .now) (c .before .before .before .before .before .before .before .before .before .before .before .before .before .before .before .before .args .k) (le-leb _ _ (c .before .before .before .before .before .before .before .before .before .before .before .before .before .if1 .left)) (eq-eqb _ _ (c .before .before .before .before .before .before .before .before .before .before .before .before .if2 .left)) (le-leb _ _ (c .before .before .before .before .before .before .before .before .before .before .before .if3 .left)) (ap (λ (m : List ℕ). goodMap m (length (c .before .before .before .before .before .before .before .before .before .before .before .before .before .before .before .before .args .memory .now))) (sym (c .before .before .before .before .before .before .before .before .map-in .ensures ∙ ap mapIn (c .before .before .before .before .before .before .before .before .before .before .words .ensures))) ∙ sym (c .before .before .before .before .before .before .good-map .ensures) ∙ not-false _ (c .before .before .before .before .before .if4 .left))) (c .before .before .before .before .before .before .before .before .map-in .ensures ∙ ap mapIn (c .before .before .before .before .before .before .before .before .before .before .words .ensures)) (c .before .before .before .offset .ensures) (c .before .size .ensures)
+returns-5 c = view-given (c .before .before .before .before .before .before .before .before .before .before .before .before .before .before .before .before .args .block .now) (c .before .before .before .before .before .before .before .before .before .before .before .before .before .before .before .before .args .memory .now) (c .before .before .before .before .before .before .before .before .map-in .result) (c .before .before .before .before .before .before .before .before .before .before .before .before .before .before .before .before .args .k) _ _ (c .before .before .before .before .before .before .before .before .before .before .before .before .before .before .before .before .args .memory .ptr) (handed-by (c .before .before .before .before .before .before .before .before .before .before .before .before .before .before .before .before .args .block .now) (c .before .before .before .before .before .before .before .before .before .before .before .before .before .before .before .before .args .memory .now) (c .before .before .before .before .before .before .before .before .before .before .before .before .before .before .before .before .args .k) (le-leb (c .before .before .before .before .before .before .before .before .before .before .before .before .before .before .before .before .args .k) 3 (omega (arith, c .before .before .before .before .before .before .before .before .before .before .before .before .before .if1 .left))) (eq-eqb _ _ (c .before .before .before .before .before .before .before .before .before .before .before .before .if2 .left)) (le-leb _ _ (c .before .before .before .before .before .before .before .before .before .before .before .if3 .left)) (ap (λ (m : List ℕ). goodMap m (length (c .before .before .before .before .before .before .before .before .before .before .before .before .before .before .before .before .args .memory .now))) (sym (c .before .before .before .before .before .before .before .before .map-in .ensures ∙ ap mapIn (c .before .before .before .before .before .before .before .before .before .before .words .ensures))) ∙ sym (c .before .before .before .before .before .before .good-map .ensures) ∙ not-false _ (c .before .before .before .before .before .if4 .left))) (c .before .before .before .before .before .before .before .before .map-in .ensures ∙ ap mapIn (c .before .before .before .before .before .before .before .before .before .before .words .ensures)) (c .before .before .before .offset .ensures) (c .before .size .ensures)
 
 pub region-spec : {M : Type 1} → statement M
 region-spec =
