@@ -5,7 +5,6 @@ use Prim.Native.Nat.{ℕ, _<_}
 use lib.Dec.{eqb}
 use lib.ListN.{getD, length}
 use Rattle.word.specs.Shifts.{bit}
-use Rattle.machine.specs.declared.Ran.{Ran}
 use Rattle.machine.specs.Marked.{Cells, marked}
 use Rattle.machine.specs.Psw.{sys, EIPSW, FEPSW, PSW}
 use Rattle.machine.specs.Run.{Ended}

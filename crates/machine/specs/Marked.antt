@@ -1,5 +1,5 @@
 -- Values with marks, and how marks travel. The rule that a result is marked exactly if something that it reads is marked stands in `lift1`, `lift2` and `liftAll`, and nowhere else.
-use mathlib.Core.Bool.{Bool, true, false, cond, _||_, not}
+use mathlib.Core.Bool.{Bool, false, cond, _||_, not}
 use mathlib.Core.List.{List, [], _∷_}
 use Prim.Native.Nat.{ℕ}
 use lib.Dec.{eqb}

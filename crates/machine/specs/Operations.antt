@@ -1,7 +1,7 @@
 -- The operations on words, a line for each: which flags it sets, whether it reads its second operand, whether it writes, and its result and flags.
 -- x is the first operand (reg1, or the immediate), y the second (reg2, or reg1 beside a 16-bit immediate).
 use mathlib.Core.Bool.{Bool, true, false, cond, _||_}
-use Prim.Native.Nat.{ℕ, _-_, _^_}
+use Prim.Native.Nat.{ℕ, _-_}
 use lib.Bits.{bitAnd, bitOr, bitXor}
 use Rattle.word.specs.declared.Computed.{Computed}
 use Rattle.word.specs.Word.{W, computed}

@@ -9,7 +9,7 @@ use Rattle.machine.specs.declared.Tv.{Tv}
 use Rattle.machine.specs.declared.Open.{Open}
 use Rattle.machine.specs.declared.Kind.{Kind}
 use Rattle.machine.specs.declared.Kind.the-variants.{Quiet, Logic, Mask, Shift, Divide, Arith, Saturate}
-use Rattle.machine.specs.Marked.{tv, plain, marked, markOf, Cells, both, cell, put}
+use Rattle.machine.specs.Marked.{tv, marked, Cells, both, cell, put}
 
 -- Cells 0 to 31 are r0 to r31. A register number has five bits, as in every halfword.
 abbrev pub reg : ℕ → Cells → Tv

@@ -2,15 +2,15 @@
 use mathlib.Core.Path.{_≡_, refl, sym, ap, _∙_}
 use mathlib.Core.Bool.{Bool, true, false, cond, _&&_, _||_}
 use mathlib.Core.List.{List}
-use Prim.Native.Nat.{ℕ, zero, suc, _+_, _-_, _*_, _/_, _%_, _^_, _≤_, _<_}
+use Prim.Native.Nat.{ℕ, zero, suc, _+_, _-_, _/_, _%_, _^_, _≤_, _<_}
 use native.Mathlib.Omega.{arith}
-use lib.Dec.{eqb, ltb, leb}
+use lib.Dec.{eqb, ltb}
 use borrow.Author.Tests.{ltb-true, ltb-false, leb-true, eqb-true, ne-eqb, lt-leb}
 use Rattle.insn.specs.declared.Size.{Size}
 use Rattle.insn.specs.declared.Size.the-variants.{Byte, Half, Word}
 use Rattle.machine.specs.declared.Spot.{Spot}
-use Rattle.machine.specs.declared.Spot.the-variants.{At, Nowhere}
-use Rattle.machine.specs.Regions.{base, size, offset, rights, covers, findFrom, find, unused, bounded, goodRegion, apart, separate, goodMap}
+use Rattle.machine.specs.declared.Spot.the-variants.{At}
+use Rattle.machine.specs.Regions.{base, size, offset, rights, covers, findFrom, find, unused, bounded, goodRegion, separate, goodMap}
 use Rattle.machine.specs.Memory.{width, aligned}
 
 pub and-true : (a b : Bool) → (a && b) ≡ true → (a ≡ true) × (b ≡ true)

@@ -1,7 +1,7 @@
 -- Runs of the defined machine by computation: the order's sample, its numbers and slips, and cases of the manual. One table, one statement over all rows.
-use mathlib.Core.Bool.{Bool, true, false, cond, _&&_}
+use mathlib.Core.Bool.{Bool, true, false, _&&_}
 use mathlib.Core.List.{List, [], _∷_, _++_}
-use Prim.Native.Nat.{ℕ, _+_, _-_, _*_, _/_, _%_, _^_}
+use Prim.Native.Nat.{ℕ, _-_, _/_, _%_, _^_}
 use lib.Dec.{T, eqb}
 use lib.ListN.{replicate, getD, set, length}
 use Rattle.word.specs.Word.{overflow, nearest}
@@ -18,18 +18,17 @@ use Rattle.machine.specs.Operations.{operation, ofReg, ofImm5, ofImm16, 
 use Rattle.machine.specs.Step.{reveal, place, load, store, bitwise, jmp, jarl, bcond, ldsr, system, exception, trap, illegal, return, reti, exec, execute, fetch, instruction, nmiAccepted, codeAccepted, takeNmi, takeCode, step}
 use Rattle.machine.specs.Run.{number, Ended, carry, run, resetOpen, resetCells}
 use Rattle.insn.specs.declared.Insn.{Insn}
-use Rattle.insn.specs.declared.Insn.the-variants.{Reg, Jmp, Imm5, Sld, Sst, Bcond, Imm16, Ld, St, Jarl, Bit, Setf, Ldsr, Stsr, Shift, Trap, Halt, Reti, Di, Ei}
+use Rattle.insn.specs.declared.Insn.the-variants.{Reg, Imm5, Bcond, Imm16, Ld, St, Bit, Setf, Ldsr, Stsr, Shift, Trap, Reti}
 use Rattle.insn.specs.declared.RegOp.the-variants.{Xor, Satadd, Satsub, Divh, Mulh, Or, Add, Cmp, Sub}
-use Rattle.insn.specs.declared.Imm5Op.the-variants.{Mov5, Add5, Shr5}
-use Rattle.insn.specs.declared.Imm16Op.the-variants.{Movea, Movhi, Andi, Satsubi}
+use Rattle.insn.specs.declared.Imm5Op.the-variants.{Mov5, Add5}
+use Rattle.insn.specs.declared.Imm16Op.the-variants.{Movea, Andi}
 use Rattle.insn.specs.declared.ShiftOp.the-variants.{Sar, Shl}
-use Rattle.insn.specs.declared.BitOp.the-variants.{Set1, Not1, Clr1, Tst1}
+use Rattle.insn.specs.declared.BitOp.the-variants.{Set1}
 use Rattle.insn.specs.declared.Size.the-variants.{Byte, Half, Word}
 use Rattle.machine.specs.declared.Open.{Open}
-use Rattle.machine.specs.declared.Tv.{Tv}
 use Rattle.machine.specs.declared.Answer.{Answer}
 use Rattle.machine.specs.declared.Answer.the-variants.{Done, Asleep, NoFetch, Undefined, Leak, NoRead, NoWrite}
-use Rattle.machine.specs.Marked.{tv, Cells, both, put, cell}
+use Rattle.machine.specs.Marked.{tv, Cells, both, put}
 use Rattle.machine.specs.Step.{goto, modes, waits}
 
 -- Programs: halfwords of instructions as bytes

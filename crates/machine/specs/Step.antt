@@ -1,7 +1,7 @@
 -- One step of the machine.
 use mathlib.Core.Bool.{Bool, cond, _&&_, not}
 use mathlib.Core.List.{List}
-use Prim.Native.Nat.{ℕ, _+_, _-_, _*_, _/_, _%_, _^_}
+use Prim.Native.Nat.{ℕ, _+_, _*_, _/_, _%_, _^_}
 use lib.Dec.{eqb, ltb}
 use Rattle.word.specs.Extend.{sum24}
 use Rattle.insn.specs.declared.Size.{Size}
@@ -21,7 +21,7 @@ use Rattle.machine.specs.declared.Went.the-variants.{Next, Stop}
 use Rattle.machine.specs.declared.Spot.{Spot}
 use Rattle.machine.specs.declared.Spot.the-variants.{At, Nowhere}
 use Rattle.machine.specs.Marked.{plain, lift1, liftAll, Cells, cell, put, edit}
-use Rattle.machine.specs.Psw.{reg, putReg, Bits, bits, bitsAt, putBits, EIPC, EIPSW, FEPC, FEPSW, ECR, PSW, sys, setZ, condition, psw, putPswFlags, mode, spread, gathered}
+use Rattle.machine.specs.Psw.{reg, putReg, bits, bitsAt, putBits, EIPC, EIPSW, FEPC, FEPSW, ECR, sys, setZ, condition, psw, putPswFlags, mode, spread, gathered}
 use Rattle.machine.specs.Regions.{find, READ, WRITE, FETCH}
 use Rattle.machine.specs.Memory.{address, bytesAt, littleEndian, extended, putBytes, changed, tests}
 use Rattle.machine.specs.Operations.{ofReg, ofImm5, ofImm16, ofShift, operate}
