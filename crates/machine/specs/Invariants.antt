@@ -270,7 +270,7 @@ module _ (map : List ℕ) {o : Open} {c m : Cells} (s : State o c m) where
 
   fetch-formed : (a : ℕ) (k : ℕ → Outcome) → ((h : ℕ) → h < 2 ^ 16 → Formed (k h)) → Formed (fetch a map o c m k)
   unfolding fetch
-  fetch-formed a k f = place-ends map _ _ _ _ λ p. reveal-ends o _ k (f _ (half-lt (s .bytes) p))
+  fetch-formed a k f = place-ends _ _ _ _ _ λ p. reveal-ends o _ k (f _ (half-lt (s .bytes) p))
 
   execute-formed : (h w : ℕ) → h < 2 ^ 16 → w < 2 ^ 16 → Formed (execute (decode h w) map o c m)
   unfolding execute illegal
