@@ -42,6 +42,7 @@ module _ (block memory : List ℕ) (k : ℕ) where
       let fits = region-fits (mapIn (wordsIn block)) (length memory) k good (omega (arith, leb-true k 3 (t .0))) in
       rw h (simp (length-take, length-drop) (omega arith))
 
+  -- The part is empty in the order's cases, and in no other.
   pub view-empty-exactly : (length (view block memory k) ≡ 0) ↔ NoPart block memory k
   view-empty-exactly = (there _ _ _ _ refl refl refl refl, back _ refl)
     where
