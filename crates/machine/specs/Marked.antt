@@ -1,4 +1,4 @@
--- Values with marks, and how marks travel. The rule that a result is marked exactly if something that it reads is marked stands in `lift1`, `lift2` and `liftAll`, and nowhere else.
+-- Values with marks, and how marks travel. The rule that a result is marked exactly if something that it reads is marked stands in `lift1`, `lift2` and `liftAll`, and for flags and saved PSWs in `condition`, `mode` and `gathered` of Psw.
 use mathlib.Core.Bool.{Bool, false, cond, _||_, not}
 use mathlib.Core.List.{List, [], _∷_}
 use Prim.Native.Nat.{ℕ}

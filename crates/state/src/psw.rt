@@ -114,7 +114,7 @@ pub fn condition(k: u32, cells: &[u32; 38], tags: &[u8; 38]) -> Tv
 }
 
 // PSW: NP, EP and ID above the flags.
-fn psw(o: Open, cells: &[u32; 38]) -> u32
+pub fn psw(o: Open, cells: &[u32; 38]) -> u32
     ensures { λ r. ⌜ ((m : List ℕ) → r ≡ psw o (both (now (cells .entry)) m) .on) ⌝ }
 {
     cells[FLAGS] % 32 + 32 * (o.id % 2) + 64 * (o.ep % 2) + 128 * (o.np % 2)

@@ -1,15 +1,15 @@
 // The block of 236 bytes as 59 words: taken apart once, and put together once.
 ghost use mathlib.Core.Path.{_≡_};
-ghost use mathlib.Core.List.{List, [], _∷_, _++_};
-ghost use Prim.Native.Nat.{ℕ, _+_, _*_, _^_, _<_};
+ghost use mathlib.Core.List.{[], _∷_, _++_};
+ghost use Prim.Native.Nat.{_+_, _*_, _^_, _<_};
 ghost use lib.ListN.{length, take, drop, replicate};
 ghost use Rattle.machine.specs.Marked.{both};
-ghost use Rattle.machine.specs.Psw.{psw};
 ghost use Rattle.machine.specs.Run.{resetOpen, resetCells};
 ghost use Rattle.machine.specs.WellFormed.{WellFormed};
 ghost use Rattle.v850.specs.Block.{bytesOf, bytesOfWord, wordAt, wordsFrom, BYTES, WORDS, atMap, byte, mapIn, coreIn, numsIn, marksIn, packBits, wordsOf, goodState};
 ghost use Rattle.v850.specs.BlockLaws.{Marks, sysMarks};
 use machine::Open;
+use state::psw;
 
 // Which word is which. Words 0 to 31 are r0 to r31.
 pub const PC: usize = 32;
@@ -205,13 +205,6 @@ pub fn marks_in(ws: &[u32; 59]) -> [u8; 38]
     tags
 }
 
-// Put together: PSW.
-fn psw(o: Open, cells: &[u32; 38]) -> u32
-    ensures { λ r. ⌜ ((m : List ℕ) → r ≡ psw o (both (now (cells .entry)) m) .on) ⌝ }
-{
-    cells[CELL_PSW] % 32 + 32 * (o.id % 2) + 64 * (o.ep % 2) + 128 * (o.np % 2)
-}
-
 // The word of the registers' marks.
 fn reg_marks(tags: &[u8; 38]) -> u32
     requires { ⌜ Marks (now tags) ⌝ }
@@ -263,7 +256,7 @@ pub fn words_of(o: Open, cells: &[u32; 38], tags: &[u8; 38], map: &[u32; 16]) ->
         i += 1;
     }
     ws[PC] = o.pc;
-    ws[PSW] = psw(o, cells);
+    ws[PSW] = psw::psw(o, cells);
     ws[EIPC] = cells[CELL_EIPC];
     ws[EIPSW] = cells[CELL_EIPSW];
     ws[FEPC] = cells[CELL_FEPC];
