@@ -3,6 +3,7 @@
 #   bench     the bench program on an image from standard input
 #   all       prove the library and write target/staticlib/libv850.a
 #   compare   the library beside the second program; CASES=N SEED=S for more or other cases
+#   walks     the second program's walks, their output against the stored one of the crates *_walk
 #   example   the example host and the one in README.md, their output against the stored one
 #   teeth     the comparison with each seeded fault; prints docs/FAULTS-FOUND.md
 #   speed     ns and instructions a step
@@ -25,7 +26,7 @@ library:
 	@rt staticlib v850 >&2
 endif
 
-.PHONY: all library setup header compare example readme teeth speed bench install clean run test
+.PHONY: all library setup header compare walks example readme teeth speed bench install clean run test
 
 all: library
 
@@ -40,6 +41,10 @@ header:
 
 compare: setup library
 	@$(SUB) -C tests/compare run LIBRARY=$(LIBRARY)
+
+# What no C code can call is compared by way of stored output: `rt ci` holds the proved programs to it, this the second program.
+walks:
+	@$(SUB) -C tests/walks run
 
 example: setup header library readme
 	@mkdir -p target/example
@@ -80,7 +85,7 @@ clean:
 run:
 	@tools/run bench <crates/bench/stdin
 
-# The gate: the second program's own test, the comparison with itself and with the library; then every crate is
+# The gate: the second program's own test, the comparison with itself and with the library, the walks; then every crate is
 # proved, every must-fail edit refused, every program run. The last line is rt's.
 test:
 	@$(X86) setup native
@@ -88,5 +93,6 @@ test:
 	@$(SUB) -s -C tests/second test BUILD=$(CURDIR)/target/second
 	@$(SUB) -C tests/compare self
 	@$(SUB) compare
+	@$(SUB) walks
 	@$(SUB) example
 	@rt ci
