@@ -5,7 +5,7 @@
 #   compare   the library beside the second program; CASES=N SEED=S for more or other cases
 #   walks     the second program's walks, their output against the stored one of the crates *_walk
 #   example   the example host and the one in README.md, their output against the stored one
-#   teeth     the comparison with each seeded fault; prints docs/FAULTS-FOUND.md
+#   teeth     the comparison and the walks with each seeded fault; prints docs/FAULTS-FOUND.md
 #   speed     ns and instructions a step
 #   install   library, header and v850.pc under PREFIX
 export LC_ALL := C

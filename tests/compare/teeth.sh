@@ -1,5 +1,6 @@
 #!/usr/bin/env bash
-# The comparison once per seeded fault of the second program that shows through run or reset: each must be found.
+# The comparison once per seeded fault of the second program that shows through run or reset: each must be found. The others, which
+# show in the decoder, the encoder or the region view only, must be found by the walks (tests/walks).
 # A second column tells which of them two runs with other secrets find by themselves, in the faulty program alone.
 # Prints docs/FAULTS-FOUND.md; called by 'make teeth', which sets X86, SECOND, BUILD, LIBRARY, CFLAGS, OWN and THEIRS.
 set -euo pipefail
@@ -33,6 +34,17 @@ build() {
     "$@" -o "$dir/$way/compare" "${objects[@]}"
 }
 
+# walk FAULT WHERE: found if the walks fail with it; they must build.
+walk() {
+    local walks=(make -s --no-print-directory -C ../walks FAULT="$1" BUILD="$dir/walks/$1")
+    "${walks[@]}" build
+    if "${walks[@]}" run >"$dir/$1.walks.txt" 2>&1; then
+        passed=$((passed + 1)) elsewhere+=("$1 ($2, not found)")
+    else
+        stopped=$((stopped + 1)) elsewhere+=("$1 ($2)")
+    fi
+}
+
 # The number of the first case that differs, or '-'.
 first_case() { sed -n 's/^DIFFERENCE in case \([0-9]*\) .*/\1/p' "$1" | grep . || echo -; }
 
@@ -40,7 +52,7 @@ beside="the library"
 case $LIBRARY in */target/staticlib/libv850.a) ;; *) beside="a stand-in with the library's entries" ;; esac
 emulated=
 [ -z "$("$X86" runner)" ] || emulated=", under emulation"
-found=0 missed=0 unseen=()
+found=0 missed=0 stopped=0 passed=0 elsewhere=()
 cat <<END
 # What the comparison finds
 
@@ -58,7 +70,7 @@ echo "|---|---|---|---|---|"
 while IFS=$'\t' read -r n what seen; do
     case $seen in
         *run* | *reset*) ;;
-        *) unseen+=("$n ($seen)"); continue ;;
+        *) walk "$n" "$seen"; continue ;;
     esac
     build "$n" x86 "$X86" cc
     start=$(date +%s.%N)
@@ -72,5 +84,5 @@ while IFS=$'\t' read -r n what seen; do
 done < <(rows)
 echo
 echo "$found faults found, $missed not found, of those that show through run or reset."
-echo "Not tried, as they show elsewhere only: $(printf '%s, ' "${unseen[@]}" | sed 's/, $//')."
-[ "$missed" -eq 0 ]
+echo "By \`make walks\` $stopped faults found, $passed not found, of those that show elsewhere only: $(printf '%s, ' "${elsewhere[@]}" | sed 's/, $//')."
+[ "$missed" -eq 0 ] && [ "$passed" -eq 0 ]
