@@ -2,8 +2,8 @@
 // of the order's table: how many of its instructions have one halfword, how many two, how many are refused, and a sum over all
 // their halfwords. tests/walks has the same program in C over the second program, and `make walks` compares.
 //
-// What it has to write. Of the 8 registers 5 exist; of the 40 numbers 16 are conditions, 8 bits, 32 vectors, 5 system registers that
-// LDSR takes and 6 that STSR takes. Of the values, nine around each of 0, 2^4 .. 2^31 and -2^4 .. -2^30, these are in range:
+// What it has to write. Of the 8 registers 5 exist; of the 40 numbers 16 are conditions, 8 bits, 32 vectors, 5 system registers
+// that LDSR takes and 6 that STSR takes. Of the values, nine around each of 0, 2^4 .. 2^31 and -2^4 .. -2^30, these are in range:
 // - n bits with a sign: 5 at the lower end, 4 at the upper one, 9 around each of the 2n - 9 middles between. 5 bits: 9 + 9 = 18.
 //   16 bits: 9 + 9 * 23 = 216. Only the even ones: 3, 2, and 5 around a middle. 9 bits: 5 + 5 * 9 = 50. 16 bits: 5 + 5 * 23 = 120.
 //   22 bits: 5 + 5 * 35 = 180.

@@ -1,15 +1,15 @@
-// The region view over six good maps, each with every word changed to sixteen values. It writes a line for each word: how many parts
-// of the memory were handed out, over all blocks, memories and region numbers, and a sum over their lengths and places. tests/walks
-// has the same program in C over the second program, and `make walks` compares.
+// The region view over six good maps, each with every word changed to sixteen values. It writes a line for each word: how many
+// parts of the memory were handed out, over all blocks, memories and region numbers, and a sum over their lengths and places.
+// tests/walks has the same program in C over the second program, and `make walks` compares.
 //
-// What it has to write, for some of the lines. A good map with r regions has r parts, in blocks of 236 bytes with either filling and
-// in every memory of at most 65,536 bytes that is long enough. So, for the values that leave map 0 good:
+// What it has to write, for some of the lines. A good map with r regions has r parts, in blocks of 236 bytes with either filling
+// and in every memory of at most 65,536 bytes that is long enough. So, for the values that leave map 0 good:
 //   region 0 base     itself, 0, 2^24 - 16: 3 values, 4 regions, 2 fillings, memories of 64, 68, 65,535 and 65,536: 3 * 32 = 96
 //   region 0 length   itself, 4 less, 8: 96
 //   region 0 rights   7, 6, 5, 3, 0: 5 * 32 = 160
 //   region 1 offset   itself: 32
-// Map 5 has no region, and one of length 4, 8, 8 or 16 at address 0 and offset 0 is good: 2 fillings, 5 memories for the shortest and
-// 4 for the others: 10 + 8 + 8 + 8 = 34 for each length, and 0 for all other words.
+// Map 5 has no region, and one of length 4, 8, 8 or 16 at address 0 and offset 0 is good: 2 fillings, 5 memories for the shortest
+// and 4 for the others: 10 + 8 + 8 + 8 = 34 for each length, and 0 for all other words.
 ghost use mathlib.Core.Path.{_≡_};
 ghost use Prim.Native.Nat.{_≤_};
 ghost use lib.ListN.{length};
