@@ -12,7 +12,6 @@ use Rattle.insn.specs.declared.Imm5Op.{Imm5Op}
 use Rattle.insn.specs.declared.Imm5Op.the-variants.{Mov5, Satadd5, Add5, Cmp5, Shr5, Sar5, Shl5, Mulh5}
 use Rattle.insn.specs.declared.Imm16Op.{Imm16Op}
 use Rattle.insn.specs.declared.Imm16Op.the-variants.{Addi, Movea, Movhi, Satsubi, Ori, Xori, Andi, Mulhi}
-use Rattle.insn.specs.declared.ShiftOp.{ShiftOp}
 use Rattle.insn.specs.declared.ShiftOp.the-variants.{Shr, Sar, Shl}
 use Rattle.insn.specs.declared.BitOp.{BitOp}
 use Rattle.insn.specs.declared.BitOp.the-variants.{Set1, Not1, Clr1, Tst1}

@@ -14,7 +14,7 @@ use Rattle.word.specs.FlagLaws.{packed-unpacked, unpacked-low}
 use Rattle.machine.specs.declared.Kind.{Kind}
 use Rattle.machine.specs.declared.Kind.the-variants.{Quiet, Logic, Mask, Shift, Divide, Arith, Saturate}
 use Rattle.machine.specs.Marked.{Cells, both}
-use Rattle.machine.specs.Psw.{PSW, sys, bitsAt, putPswFlags, rulesOf, followAll, told, everyFlag, quiet, setFlags, withZ, setZ}
+use Rattle.machine.specs.Psw.{rulesOf, followAll, told, everyFlag, quiet, setFlags, withZ, setZ}
 
 -- one bit where it stands, and the bits from j on as bit j and those above it
 worth : (p r : ℕ) → r < 2 → cond (eqb r 1) p 0 ≡ r * p

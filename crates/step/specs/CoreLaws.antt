@@ -1,5 +1,5 @@
 -- What is never marked, in two numbers: packed and taken out it is the same, and what a step makes of it fits again.
-use mathlib.Core.Path.{_≡_, refl, sym, ap, _∙_}
+use mathlib.Core.Path.{_≡_, sym, ap}
 use mathlib.Core.Bool.{true, _&&_}
 use mathlib.Core.List.{[]}
 use Prim.Native.Nat.{ℕ, _+_, _*_, _/_, _%_, _^_, _<_}
@@ -11,7 +11,7 @@ use Rattle.machine.specs.declared.Went.{Went}
 use Rattle.machine.specs.declared.Went.the-variants.{Next}
 use Rattle.machine.specs.Marked.{Cells, both}
 use Rattle.machine.specs.Psw.{EIPC, EIPSW, FEPC, FEPSW}
-use Rattle.machine.specs.Step.{Outcome, after, next, goto, plus, modes, cause, waits, reveal, exception, trap, illegal, return, reti, takeNmi, takeCode}
+use Rattle.machine.specs.Step.{Outcome, after, next, goto, plus, modes, cause, waits, exception, trap, illegal, return, reti, takeNmi, takeCode}
 use Rattle.machine.specs.WellFormed.{WellFormed}
 use Rattle.machine.specs.InvariantLaws.{code-target, Ends, next-ends, reveal-ends, cond-ends}
 use Rattle.step.specs.declared.Out.{Out}

@@ -19,7 +19,6 @@ use Rattle.machine.specs.declared.Answer.the-variants.{NoFetch, Leak}
 use Rattle.machine.specs.Marked.{liftAll, Cells, both}
 use Rattle.machine.specs.Regions.{FETCH, find}
 use Rattle.machine.specs.Memory.{bytesAt, littleEndian}
-use Rattle.machine.specs.WellFormed.{Bytes}
 use Rattle.machine.specs.InvariantLaws.{half-lt}
 use Rattle.machine.specs.Step.{Outcome, refuse, execute, fetch, instruction}
 use Rattle.state.specs.declared.Place.{Place}

@@ -3,7 +3,7 @@ ghost use mathlib.Core.Path.{_≡_};
 ghost use mathlib.Core.Bool.{true, false};
 ghost use Prim.Native.Nat.{_-_, _≤_, _<_};
 ghost use Rattle.machine.specs.Marked.{both};
-ghost use Rattle.machine.specs.Run.{Ended, run};
+ghost use Rattle.machine.specs.Run.{run};
 ghost use Rattle.machine.specs.WellFormed.{WellFormed, Bytes};
 ghost use Rattle.step.specs.Tasks.{openOf, acts, goesOn, goesFrom, Ready, Prepared};
 use crate::Packed;

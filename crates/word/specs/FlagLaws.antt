@@ -8,7 +8,7 @@ use lib.Pow.{field, mod-mod-pow}
 use lib.ListN.{getD, List·getD-map, List·getD-eq-default}
 use Rattle.word.specs.Shifts.{bit}
 use Rattle.word.specs.Flags.{Flags, unpacked, packed, xor, conditions, holds, reads}
-use Rattle.word.specs.Tests.{beq→eq, below, below-at, eitherWay, eitherWay-at}
+use Rattle.word.specs.Tests.{beq→eq, below-at, eitherWay, eitherWay-at}
 
 -- a test at all 32 settings of the flags
 abbrev every : (Flags → Bool) → Bool

@@ -1,6 +1,6 @@
 -- Sums and differences: ADD, SUB, and their saturated kin.
 use mathlib.Core.Bool.{Bool}
-use Prim.Native.Nat.{ℕ, _+_, _-_, _%_, _^_}
+use Prim.Native.Nat.{ℕ, _+_, _-_, _%_}
 use lib.Dec.{ltb, leb}
 use lib.IntN.{_+ℤ_, _-ℤ_}
 use Rattle.word.specs.declared.Computed.{Computed}

@@ -1,5 +1,5 @@
 -- A marked condition is refused; an open one chooses between the next instruction and the displacement.
-use mathlib.Core.Path.{refl, _∙_}
+use mathlib.Core.Path.{refl}
 use borrow.Author.Tests.{eq-eqb, ne-eqb}
 use borrow.Author.Needs.{needs}
 use Rattle.machine.specs.Step.{bcond}

@@ -1,7 +1,6 @@
 -- The system register's value, with its mark, to the register.
 use mathlib.Core.Path.{refl, _∙_}
 use borrow.Author.Needs.{needs}
-use Rattle.machine.specs.Step.{system}
 use Rattle.step.specs.StepLaws.{on}
 use Rattle.step.proofs.control.stsr.Statement.{statement}
 use Rattle.step.proofs.control.stsr.Tie as tie

@@ -2,7 +2,7 @@
 use mathlib.Core.Path.{_≡_, refl, sym, ap, _∙_}
 use native.Mathlib.Omega.{arith}
 use denote.Ref.{now}
-use Prim.Native.Nat.{_-_, _≤_}
+use Prim.Native.Nat.{_-_}
 use Rattle.machine.specs.Marked.{both}
 use Rattle.machine.specs.Run.{run}
 use Rattle.step.specs.Tasks.{openOf, goesOn}
