@@ -3,14 +3,14 @@ use mathlib.Core.Path.{_≡_, refl, sym, _∙_, subst}
 use mathlib.Core.Bool.{Bool, true, false, cond, _&&_}
 use mathlib.Core.List.{List, [], _∷_}
 use mathlib.Core.Logic.{_⊎_, inl, inr}
-use Prim.Native.Nat.{ℕ, zero, suc, _+_, _-_, _*_, _/_, _%_, _^_, _<_}
+use Prim.Native.Nat.{ℕ, zero, suc, _+_, _-_, _*_, _/_, _%_, _^_, _≤_, _<_}
 use native.Mathlib.Omega.{arith}
 use lib.Dec.{T, eqb, leb, eqb→eq, leb→le}
 use lib.ListN.{getD, set, length, length-set}
 use lib.Seq.{getD-set-other}
 use lib.Bits.{and-le-l, or-lt, xor-lt, and-lt}
 use lib.Pow.{pow-lt}
-use borrow.Author.Tests.{eqb-false, lt-ltb}
+use borrow.Author.Tests.{eqb-false, leb-true, lt-ltb}
 use mir.Facts.{or-yes, and-yes}
 use Rattle.word.specs.declared.Computed.{Computed}
 use Rattle.word.specs.Word.{W}
@@ -38,7 +38,7 @@ use Rattle.machine.specs.Regions.{find}
 use Rattle.machine.specs.Memory.{bytesAt, littleEndian, extended, byteOf, putBytes, changed}
 use Rattle.machine.specs.Operations.{operation, second, operate}
 use Rattle.machine.specs.Step.{Outcome, next, refuse, goto, plus, modes, cause, waits, fecc, eicc, reveal, onSpot, place, savePc, savePsw, step}
-use Rattle.machine.specs.Run.{Ended, ended, onWent, carry, run}
+use Rattle.machine.specs.Run.{number, Ended, ended, onWent, carry, run}
 use Rattle.machine.specs.WellFormed.{limit, markLimit, goodCode, Bytes, GoodCells, GoodOpen}
 
 -- What holds of every number of a list holds of it with one number set, if it holds of that one
@@ -288,15 +288,21 @@ States = Open → Cells → Cells → Type 0
 pub record Ends (P : States) (c m : Cells) (x : Outcome) : Type 0 where
   pub went : (o′ : Open) → x .went ≡ Next o′ → P o′ (x .cells) (x .mem)
   pub stopped : (a : Answer) (p : ℕ) → x .went ≡ Stop a p → (x .cells ≡ c) × (x .mem ≡ m)
+  pub answer : (a : Answer) (p : ℕ) → x .went ≡ Stop a p → leb 4 (number a) ≡ true
 
 never : {A : Type 0} {o : Open} {a : Answer} {p : ℕ} → Next o ≡ Stop a p → A
 never e = let z : _≡_ {A = ℕ} 0 1 = cc in absurd (omega arith)
 
 pub next-ends : {P : States} {c m c′ m′ : Cells} {o′ : Open} → P o′ c′ m′ → Ends P c m (next o′ c′ m′)
-next-ends {P} {c′ = c′} {m′ = m′} h = record { went = λ o e. subst (λ (q : Open). P q c′ m′) (cc) h; stopped = λ a p e. never e }
+next-ends {P} {c′ = c′} {m′ = m′} h = record { went = λ o e. subst (λ (q : Open). P q c′ m′) (cc) h; stopped = λ a p e. never e; answer = λ a p e. never e }
 
-pub refuse-ends : {P : States} {c m : Cells} (a : Answer) (p : ℕ) → Ends P c m (refuse a p c m)
-refuse-ends a p = record { went = λ o e. never (sym e); stopped = λ a p e. (refl, refl) }
+pub refuse-ends : {P : States} {c m : Cells} (a : Answer) (p : ℕ) → leb 4 (number a) ≡ true → Ends P c m (refuse a p c m)
+refuse-ends a p h =
+    record {
+      went = λ o e. never (sym e);
+      stopped = λ b q e. (refl, refl);
+      answer = λ b q e. let s : a ≡ b = cc in subst (λ (k : Answer). leb 4 (number k) ≡ true) s h;
+    }
 
 pub cond-ends : {P : States} {c m : Cells} (t : Bool) {x y : Outcome} → Ends P c m x → Ends P c m y → Ends P c m (cond t x y)
 cond-ends {P} {c} {m} t h k = cond-holds (Ends P c m) t h k
@@ -304,16 +310,16 @@ cond-ends {P} {c} {m} t h k = cond-holds (Ends P c m) t h k
 pub reveal-ends : {P : States} {c m : Cells} (o : Open) (v : Tv) (k : ℕ → Outcome)
     → Ends P c m (k (v .val)) → Ends P c m (reveal o c m v k)
 unfolding reveal
-reveal-ends {P} {c} {m} o v k h = cond-ends (v .mark) (refuse-ends _ _) h
+reveal-ends {P} {c} {m} o v k h = cond-ends (v .mark) (refuse-ends _ _ refl) h
 
 pub place-ends : {P : States} {c m : Cells} (map : List ℕ) (right : ℕ) (answer : Answer) (a : ℕ) (k : ℕ → Outcome)
-    → ((p : ℕ) → Ends P c m (k p)) → Ends P c m (place map right answer a c m k)
+    → leb 4 (number answer) ≡ true → ((p : ℕ) → Ends P c m (k p)) → Ends P c m (place map right answer a c m k)
 unfolding place
-place-ends {P} {c} {m} map right answer a k h = go (find map right a)
+place-ends {P} {c} {m} map right answer a k l h = go (find map right a)
   where
     go : (s : Spot) → Ends P c m (onSpot s (refuse answer a c m) k)
     go (At p) = h p
-    go Nowhere = refuse-ends answer a
+    go Nowhere = refuse-ends answer a l
 
 -- what holds of memory before a step and after one that ends well holds of it in any case
 pub any-end : (Q : Cells → Type 0) {c m : Cells} {x : Outcome} → Q m → Ends (λ o′ c′ m′. Q m′) c m x → Q (x .mem)
@@ -322,6 +328,19 @@ any-end Q {x = x} h e = go (x .went) refl
     go : (w : Went) → x .went ≡ w → Q (x .mem)
     go (Next p) q = e .went p q
     go (Stop a p) q = subst Q (sym (e .stopped a p q .1)) h
+
+-- A run answers DONE, or what a refused step answers
+abbrev pub Answered : Ended → Type 0
+Answered x = (number (x .ran .answer) ≡ 0) ⊎ (4 ≤ number (x .ran .answer))
+
+pub carry-answers : (go : Open → Cells → Cells → Ended) (n : ℕ) (o : Open) → ((o : Open) (c m : Cells) → Answered (go o c m))
+    → {P : States} {c m : Cells} (x : Outcome) → Ends P c m x → Answered (carry go n o x)
+unfolding carry
+carry-answers go n o f x e = by (x .went) refl
+  where
+    by : (w : Went) → x .went ≡ w → Answered (onWent w (λ p. go p (x .cells) (x .mem)) (λ a p. ended a p n o (x .cells) (x .mem)))
+    by (Next p) q = f p (x .cells) (x .mem)
+    by (Stop a p) q = inr (leb-true 4 (number a) (e .answer a p q))
 
 -- What every step keeps holds at the end of a run
 abbrev pub AtEnd : States → Ended → Type 0

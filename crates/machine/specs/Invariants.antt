@@ -30,15 +30,15 @@ use Rattle.machine.specs.Marked.{Cells, cell}
 use Rattle.machine.specs.Psw.{EIPC, EIPSW, FEPC, FEPSW, ECR, PSW, sys, reg, bits, bitsAt, condition, psw, mode}
 use Rattle.machine.specs.Memory.{changed, tests}
 use Rattle.machine.specs.Step.{Outcome, next, plus, load, store, bitwise, jmp, jarl, bcond, ldsr, system, exception, trap, illegal, return, reti, exec, execute, fetch, instruction, nmiAccepted, codeAccepted, takeNmi, takeCode, step}
-use Rattle.machine.specs.Run.{run, resetOpen, resetCells}
+use Rattle.machine.specs.Run.{number, run, resetOpen, resetCells}
 use Rattle.machine.specs.WellFormed.{limit, markLimit, WellFormed, Bytes, GoodCells, GoodOpen}
-use Rattle.machine.specs.InvariantLaws.{IsWord, reg-word, putReg-good, setZ-good, condition-word, psw-marks, Bank, ei, fe, saved-pc, putLow-good, putSpread-good, putPswFlags-good, saved-good, operate-good, goto-good, plus-good, modes-good, waits-good, fecc-good, eicc-good, code-target, edit-bytes, changed-byte, putBytes-bytes, half-lt, loaded-word, Ends, next-ends, refuse-ends, reveal-ends, place-ends, cond-ends, Kept, same, edit-kept, putBytes-kept, any-end, run-holds}
+use Rattle.machine.specs.InvariantLaws.{IsWord, reg-word, putReg-good, setZ-good, condition-word, psw-marks, Bank, ei, fe, saved-pc, putLow-good, putSpread-good, putPswFlags-good, saved-good, operate-good, goto-good, plus-good, modes-good, waits-good, fecc-good, eicc-good, code-target, edit-bytes, changed-byte, putBytes-bytes, half-lt, loaded-word, Ends, next-ends, refuse-ends, reveal-ends, place-ends, cond-ends, Kept, same, edit-kept, putBytes-kept, any-end, carry-answers, run-holds}
 
 -- A step from the memory m that keeps the size and the marks of the memory n, with which a run began
 abbrev Keeps : Cells → Cells → Cells → Outcome → Type 0
 Keeps n c m x = Ends (λ o′ c′ m′. Kept n m′) c m x
 
-ruleset keeps = (next-ends, refuse-ends, reveal-ends, place-ends, cond-ends, edit-kept, putBytes-kept)
+ruleset keeps = (next-ends, refuse-ends, reveal-ends, place-ends, cond-ends, edit-kept, putBytes-kept, refl)
 
 module _ (map : List ℕ) (o : Open) {n : Cells} (c : Cells) {m : Cells} (kept : Kept n m) where
   load-keeps : (s : Size) (disp reg1 reg2 len : ℕ) → Keeps n c m (load s disp reg1 reg2 len map o c m)
@@ -149,21 +149,21 @@ module _ (map : List ℕ) {o : Open} {c m : Cells} (s : State o c m) where
   load-formed : (z : Size) (disp reg1 reg2 len : ℕ) → len % 2 ≡ 0 → Formed (load z disp reg1 reg2 len map o c m)
   unfolding load
   load-formed z disp reg1 reg2 len e =
-      reveal-ends o _ _ (place-ends map _ _ _ _ λ p.
+      reveal-ends o _ _ (place-ends map _ _ _ _ refl λ p.
       on (ahead len e) (putReg-good (s .formed .cells) reg2 _ (loaded-word (s .bytes) p z)))
 
   store-formed : (z : Size) (disp reg1 reg2 len : ℕ) → len % 2 ≡ 0 → Formed (store z disp reg1 reg2 len map o c m)
   unfolding store
   store-formed z disp reg1 reg2 len e =
-      reveal-ends o _ _ (place-ends map _ _ _ _ λ p.
+      reveal-ends o _ _ (place-ends map _ _ _ _ refl λ p.
       next-ends (record { formed = record { core = ahead len e; cells = s .formed .cells }; bytes = putBytes-bytes (s .bytes) z p _ }))
 
   bitwise-formed : (op : BitOp) (n disp reg1 : ℕ) → n < 8 → Formed (bitwise op n disp reg1 map o c m)
   unfolding bitwise
   bitwise-formed op n disp reg1 h =
-      reveal-ends o _ _ (place-ends map _ _ _ _ λ p.
+      reveal-ends o _ _ (place-ends map _ _ _ _ refl λ p.
       cond-ends (tests op) (on (ahead 4 refl) (setZ-good (s .formed .cells) _ _))
-      (place-ends map _ _ _ _ λ q.
+      (place-ends map _ _ _ _ refl λ q.
       next-ends (record {
         formed = record { core = ahead 4 refl; cells = setZ-good (s .formed .cells) _ _ };
         bytes = edit-bytes (s .bytes) p (changed op n) (λ x k. changed-byte op n x h k);
@@ -270,7 +270,7 @@ module _ (map : List ℕ) {o : Open} {c m : Cells} (s : State o c m) where
 
   fetch-formed : (a : ℕ) (k : ℕ → Outcome) → ((h : ℕ) → h < 2 ^ 16 → Formed (k h)) → Formed (fetch a map o c m k)
   unfolding fetch
-  fetch-formed a k f = place-ends _ _ _ _ _ λ p. reveal-ends o _ k (f _ (half-lt (s .bytes) p))
+  fetch-formed a k f = place-ends _ _ _ _ _ refl λ p. reveal-ends o _ k (f _ (half-lt (s .bytes) p))
 
   execute-formed : (h w : ℕ) → h < 2 ^ 16 → w < 2 ^ 16 → Formed (execute (decode h w) map o c m)
   unfolding execute illegal
@@ -279,14 +279,14 @@ module _ (map : List ℕ) {o : Open} {c m : Cells} (s : State o c m) where
       go : (d : Decoded) → decode h w ≡ d → Formed (execute d map o c m)
       go (decoded.Valid i) e = exec-formed i (subst T (sym (decode-in-range h w l k i e)) tt)
       go decoded.Illegal e = exception-formed 0x60 0x60 (omega arith) refl (omega arith)
-      go decoded.Undefined e = refuse-ends _ _
+      go decoded.Undefined e = refuse-ends _ _ refl
 
   step-formed : Formed (step map o c m)
   unfolding step instruction
   step-formed =
       cond-ends (nmiAccepted o) takeNmi-formed
       (cond-ends (codeAccepted o) takeCode-formed
-      (cond-ends (eqb (o .halted) 1) (refuse-ends _ _)
+      (cond-ends (eqb (o .halted) 1) (refuse-ends _ _ refl)
       (fetch-formed (o .pc) _ λ h l.
       cond-ends (long h) (fetch-formed _ _ λ w k. execute-formed h w l k) (execute-formed h 0 l (omega arith)))))
 
@@ -318,6 +318,14 @@ markLimit-pos i =
 pub refused-changes-nothing : (map : List ℕ) (o : Open) (c m : Cells) (answer : Answer) (place : ℕ)
     → step map o c m .went ≡ Stop answer place → (step map o c m .cells ≡ c) × (step map o c m .mem ≡ m)
 refused-changes-nothing map o c m = step-keeps map o c (same m) .stopped
+
+-- A refused step is answered by a number from 4 on, and a run by one of these or by DONE: SIZE, MAP and STATE are none of them.
+pub run-answers : (budget n : ℕ) (map : List ℕ) (o : Open) (c m : Cells)
+    → (number (run budget n map o c m .ran .answer) ≡ 0) ⊎ (4 ≤ number (run budget n map o c m .ran .answer))
+unfolding run
+run-answers zero n map o c m = inl refl
+run-answers (suc budget) n map o c m =
+    carry-answers (run budget (suc n) map) n o (run-answers budget (suc n) map) (step map o c m) (step-keeps map o c (same m))
 
 -- A step from a well-formed state leads to one, and from bytes to bytes.
 pub step-well-formed : (map : List ℕ) (o : Open) (c m : Cells) → WellFormed o c → Bytes m

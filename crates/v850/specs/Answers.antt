@@ -10,10 +10,10 @@ use Rattle.machine.specs.declared.Answer.the-variants.{Size, Map, State}
 use Rattle.machine.specs.Marked.{both}
 use Rattle.machine.specs.Regions.{goodMap}
 use Rattle.machine.specs.Run.{number}
+use Rattle.machine.specs.Invariants.{run-answers}
 use Rattle.v850.specs.Block.{mapIn, coreIn, cellsIn, goodState}
 use Rattle.v850.specs.Entry.{Left, left, REPORT, goodSizes, wordsIn, called}
 use Rattle.v850.specs.CallLaws.{refused-size, refused-map, refused-state}
-use Rattle.v850.specs.AnswerLaws.{run-answers}
 
 -- no number of a refused call
 another : {n : ℕ} (k : ℕ) → 0 < k → k < 4 → ((n ≡ 0) ⊎ (4 ≤ n)) → n ≡ k → ⊥

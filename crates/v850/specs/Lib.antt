@@ -10,5 +10,4 @@ pub mod AlikeStarts
 pub mod SecrecyLaws
 pub mod Secrecy
 pub mod CallLaws
-pub mod AnswerLaws
 pub mod Answers
