@@ -215,7 +215,7 @@ Spells (One h) i = (h < 2 ^ 16) × (long h ≡ false) × ((w : ℕ) → decode h
 Spells (Two h w) i = (h < 2 ^ 16) × (w < 2 ^ 16) × (long h ≡ true) × (decode h w ≡ Valid i)
 Spells Field i = inRange i ≡ false
 
-fields : (reg2 opcode reg1 : ℕ) → reg2 < 32 → opcode < 64 → reg1 < 32 → let h : ℕ = half reg2 opcode reg1 in
+pub fields : (reg2 opcode reg1 : ℕ) → reg2 < 32 → opcode < 64 → reg1 < 32 → let h : ℕ = half reg2 opcode reg1 in
     (h < 2 ^ 16) × (reg2Of h ≡ reg2) × (opcodeOf h ≡ opcode) × (reg1Of h ≡ reg1)
 fields reg2 opcode reg1 a b c = omega facts
 

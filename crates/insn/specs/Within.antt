@@ -19,3 +19,8 @@ within A P lo (suc n) e {k} a b =
 pub past : (A : Type 0) (lo n : ℕ) {k : ℕ} → Each A (λ m. (k ≡ m → ⊥)) lo n → lo ≤ k → lo + n ≤ k
 past A lo n {k} e a =
     let out : k < lo + n → ⊥ = λ h. within A (λ m. (k ≡ m → ⊥)) lo n e a h refl in omega arith
+
+-- and one that is not past them is below lo
+pub under : (A : Type 0) (lo n : ℕ) {k : ℕ} → Each A (λ m. (k ≡ m → ⊥)) lo n → k < lo + n → k < lo
+under A lo n {k} e b =
+    let out : lo ≤ k → ⊥ = λ h. within A (λ m. (k ≡ m → ⊥)) lo n e h b refl in omega arith

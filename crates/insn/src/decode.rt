@@ -3,7 +3,7 @@ ghost use mathlib.Core.Path.{_≡_};
 ghost use mathlib.Core.Bool.{true, false};
 ghost use Prim.Native.Nat.{ℕ, _%_, _≤_, _<_};
 ghost use lib.Dec.{eqb};
-ghost use Rattle.insn.specs.Coding.{long, bitOp, loads, when, disp7, disp9, disp22, decodeExtended, decodeFields, decode};
+ghost use Rattle.insn.specs.Coding.{reg2Of, opcodeOf, reg1Of, long, bitOp, loads, when, disp7, disp9, disp22, decodeExtended, decodeFields, decode};
 use crate::BitOp;
 use crate::Decoded;
 use crate::Imm5Op;
@@ -13,6 +13,25 @@ use crate::RegOp;
 use crate::ShiftOp;
 use crate::Size;
 use word::extend;
+
+// A halfword's fields: bits 15-11, 10-5 and 4-0.
+pub fn reg2_of(h: u32) -> u32
+    ensures { λ r. ⌜ r ≡ reg2Of h ⌝ }
+{
+    h / 2048
+}
+
+pub fn opcode_of(h: u32) -> u32
+    ensures { λ r. ⌜ r ≡ opcodeOf h ⌝ }
+{
+    h / 32 % 64
+}
+
+pub fn reg1_of(h: u32) -> u32
+    ensures { λ r. ⌜ r ≡ reg1Of h ⌝ }
+{
+    h % 32
+}
 
 // A second halfword follows.
 pub fn is_long(first: u16) -> bool
@@ -25,43 +44,46 @@ pub fn is_long(first: u16) -> bool
 pub fn decode(first: u16, second: u16) -> Decoded
     ensures { λ r. ⌜ r ≡ decode first second ⌝ }
 {
-    match first / 32 % 64 {
-        0b000000..=0b101111 => one(first),
-        _ => two(first, second),
+    let h = first as u32;
+    let opcode = opcode_of(h);
+    match opcode {
+        0b000000..=0b101111 => short(h, reg2_of(h), opcode, reg1_of(h)),
+        _ => long(reg2_of(h), opcode, reg1_of(h), second as u32),
     }
 }
 
-// A short form: opcodes up to 101111.
-pub fn one(first: u16) -> Decoded
-    requires { ⌜ long first ≡ false ⌝ }
-    ensures { λ r. ⌜ ((w : ℕ) → r ≡ decode first w) ⌝ }
-{
-    let h = first as u32;
-    short(h / 2048, h / 32 % 64, h % 32)
-}
-
-// A form with a second halfword: opcodes from 110000 on. Put together so, the opcode lets the compiler jump without asking for its
-// range.
-pub fn two(first: u16, second: u16) -> Decoded
-    requires { ⌜ long first ≡ true ⌝ }
-    ensures { λ r. ⌜ r ≡ decode first second ⌝ }
-{
-    let h = first as u32;
-    long(h / 2048, 0b110000 + h / 32 % 16, h % 32, second as u32)
-}
-
-// By the opcode. Parting the short forms so lets the compiler follow each opcode to its work by one jump.
-fn short(reg2: u32, opcode: u32, reg1: u32) -> Decoded
-    requires { ⌜ (reg2 < 32) × (opcode ≤ 0b101111) × (reg1 < 32) ⌝ }
-    ensures { λ r. ⌜ ((w : ℕ) → r ≡ decodeFields reg2 opcode reg1 w) ⌝ }
+// A short form, with its fields: opcodes up to 101111. Each has an arm of its own, here or in `operation`, so that the compiler makes one
+// table of them and goes from an opcode to its work by one jump.
+pub fn short(h: u32, reg2: u32, opcode: u32, reg1: u32) -> Decoded
+    requires { ⌜ (h < 65536) × (reg2 ≡ reg2Of h) × (opcode ≡ opcodeOf h) × (reg1 ≡ reg1Of h) × (opcode ≤ 0b101111) ⌝ }
+    ensures { λ r. ⌜ ((w : ℕ) → r ≡ decode h w) ⌝ }
 {
     match opcode {
-        0b000000..=0b010111 => operation(reg2, opcode, reg1),
-        0b011000..=0b101011 => transfer(reg2, opcode, reg1),
-        _ => Decoded::Valid(Insn::Bcond {
-            cond: reg1 % 16,
-            disp: disp9(reg2, opcode, reg1),
-        }),
+        0b011000 => sld_byte(h),
+        0b011001 => sld_byte(h),
+        0b011010 => sld_byte(h),
+        0b011011 => sld_byte(h),
+        0b011100 => sst_byte(h),
+        0b011101 => sst_byte(h),
+        0b011110 => sst_byte(h),
+        0b011111 => sst_byte(h),
+        0b100000 => sld_half(h),
+        0b100001 => sld_half(h),
+        0b100010 => sld_half(h),
+        0b100011 => sld_half(h),
+        0b100100 => sst_half(h),
+        0b100101 => sst_half(h),
+        0b100110 => sst_half(h),
+        0b100111 => sst_half(h),
+        0b101000 => word(h),
+        0b101001 => word(h),
+        0b101010 => word(h),
+        0b101011 => word(h),
+        0b101100 => bcond(h),
+        0b101101 => bcond(h),
+        0b101110 => bcond(h),
+        0b101111 => bcond(h),
+        _ => operation(reg2, opcode, reg1),
     }
 }
 
@@ -107,30 +129,59 @@ fn operation(reg2: u32, opcode: u32, reg1: u32) -> Decoded
 }
 
 // 011000-101011: short loads and stores.
-fn transfer(reg2: u32, opcode: u32, reg1: u32) -> Decoded
-    requires { ⌜ (reg2 < 32) × (0b011000 ≤ opcode) × (opcode ≤ 0b101011) × (reg1 < 32) ⌝ }
-    ensures { λ r. ⌜ ((w : ℕ) → r ≡ decodeFields reg2 opcode reg1 w) ⌝ }
+fn sld_byte(h: u32) -> Decoded
+    requires { ⌜ (h < 65536) × (0b011000 ≤ opcodeOf h) × (opcodeOf h < 0b011100) ⌝ }
+    ensures { λ r. ⌜ ((w : ℕ) → r ≡ decode h w) ⌝ }
 {
-    match opcode {
-        // these opcodes are gone
-        0b000000..=0b010111 => Decoded::Undefined,
-        0b011000..=0b011011 => sld(Size::Byte, disp7(opcode, reg1), reg2),
-        0b011100..=0b011111 => sst(Size::Byte, disp7(opcode, reg1), reg2),
-        0b100000..=0b100011 => sld(Size::Half, disp7(opcode, reg1) * 2, reg2),
-        0b100100..=0b100111 => sst(Size::Half, disp7(opcode, reg1) * 2, reg2),
-        _ => {
-            let disp = disp7(opcode, reg1) / 2 * 4;
-            if reg1 % 2 == 0 {
-                sld(Size::Word, disp, reg2)
-            } else {
-                sst(Size::Word, disp, reg2)
-            }
-        }
+    sld(Size::Byte, disp7(h), reg2_of(h))
+}
+
+fn sst_byte(h: u32) -> Decoded
+    requires { ⌜ (h < 65536) × (0b011100 ≤ opcodeOf h) × (opcodeOf h < 0b100000) ⌝ }
+    ensures { λ r. ⌜ ((w : ℕ) → r ≡ decode h w) ⌝ }
+{
+    sst(Size::Byte, disp7(h), reg2_of(h))
+}
+
+fn sld_half(h: u32) -> Decoded
+    requires { ⌜ (h < 65536) × (0b100000 ≤ opcodeOf h) × (opcodeOf h < 0b100100) ⌝ }
+    ensures { λ r. ⌜ ((w : ℕ) → r ≡ decode h w) ⌝ }
+{
+    sld(Size::Half, disp7(h) * 2, reg2_of(h))
+}
+
+fn sst_half(h: u32) -> Decoded
+    requires { ⌜ (h < 65536) × (0b100100 ≤ opcodeOf h) × (opcodeOf h < 0b101000) ⌝ }
+    ensures { λ r. ⌜ ((w : ℕ) → r ≡ decode h w) ⌝ }
+{
+    sst(Size::Half, disp7(h) * 2, reg2_of(h))
+}
+
+fn word(h: u32) -> Decoded
+    requires { ⌜ (h < 65536) × (0b101000 ≤ opcodeOf h) × (opcodeOf h < 0b101100) ⌝ }
+    ensures { λ r. ⌜ ((w : ℕ) → r ≡ decode h w) ⌝ }
+{
+    let disp = disp7(h) / 2 * 4;
+    if h % 2 == 0 {
+        sld(Size::Word, disp, reg2_of(h))
+    } else {
+        sst(Size::Word, disp, reg2_of(h))
     }
 }
 
+// 101100-101111.
+fn bcond(h: u32) -> Decoded
+    requires { ⌜ (h < 65536) × (0b101100 ≤ opcodeOf h) × (opcodeOf h < 0b110000) ⌝ }
+    ensures { λ r. ⌜ ((w : ℕ) → r ≡ decode h w) ⌝ }
+{
+    Decoded::Valid(Insn::Bcond {
+        cond: h % 16,
+        disp: disp9(h),
+    })
+}
+
 // 110000-111111: the forms with a second halfword.
-fn long(reg2: u32, opcode: u32, reg1: u32, w: u32) -> Decoded
+pub fn long(reg2: u32, opcode: u32, reg1: u32, w: u32) -> Decoded
     requires { ⌜ (reg2 < 32) × (0b110000 ≤ opcode) × (opcode < 64) × (reg1 < 32) × (w < 65536) ⌝ }
     ensures { λ r. ⌜ r ≡ decodeFields reg2 opcode reg1 w ⌝ }
 {
@@ -297,19 +348,18 @@ fn shift(op: ShiftOp, reg1: u32, reg2: u32) -> Decoded
     Decoded::Valid(Insn::Shift { op, reg1, reg2 })
 }
 
-// Displacements that are kept in two fields.
-fn disp7(opcode: u32, reg1: u32) -> u32
-    requires { ⌜ reg1 < 32 ⌝ }
-    ensures { λ r. ⌜ r ≡ disp7 opcode reg1 ⌝ }
+// Displacements that are kept in two fields. Those of the first halfword are read off it, bits 6-0, or 15-11 and 6-4.
+fn disp7(h: u32) -> u32
+    ensures { λ r. ⌜ r ≡ disp7 (opcodeOf h) (reg1Of h) ⌝ }
 {
-    opcode % 4 * 32 + reg1
+    h % 128
 }
 
-fn disp9(reg2: u32, opcode: u32, reg1: u32) -> u32
-    requires { ⌜ (reg2 < 32) × (reg1 < 32) ⌝ }
-    ensures { λ r. ⌜ r ≡ disp9 reg2 opcode reg1 ⌝ }
+fn disp9(h: u32) -> u32
+    requires { ⌜ h < 65536 ⌝ }
+    ensures { λ r. ⌜ r ≡ disp9 (reg2Of h) (opcodeOf h) (reg1Of h) ⌝ }
 {
-    extend::sign9(reg2 * 16 + (opcode % 4 * 2 + reg1 / 16) * 2)
+    extend::sign9(h / 2048 * 16 + h / 16 % 8 * 2)
 }
 
 fn disp22(opcode: u32, reg1: u32, w: u32) -> u32

@@ -192,11 +192,13 @@ unfoldable pub fetch : ℕ → List ℕ → Open → Cells → Cells → (ℕ �
 fetch a map o c m k =
     place map FETCH NoFetch (a / 2 * 2) c m λ p. reveal o c m (liftAll littleEndian (bytesAt m p Half)) k
 
--- The instruction at PC: a second halfword is fetched only if the first asks for it
-unfoldable pub instruction : List ℕ → Open → Cells → Cells → Outcome
-instruction map o c m =
-    fetch (o .pc) map o c m λ h.
+-- The instruction at PC: a second halfword is fetched only if the first, h, asks for it
+abbrev pub completed : ℕ → List ℕ → Open → Cells → Cells → Outcome
+completed h map o c m =
     cond (long h) (fetch (sum24 (o .pc) 2) map o c m λ w. execute (decode h w) map o c m) (execute (decode h 0) map o c m)
+
+unfoldable pub instruction : List ℕ → Open → Cells → Cells → Outcome
+instruction map o c m = fetch (o .pc) map o c m λ h. completed h map o c m
 
 -- Requests. Accepting one clears it and ends HALT
 unfoldable pub nmiAccepted : Open → Bool

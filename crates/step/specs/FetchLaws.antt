@@ -4,12 +4,13 @@ use mathlib.Core.Bool.{Bool, true, false, not, true≢false}
 use mathlib.Core.List.{List}
 use Prim.Native.Nat.{ℕ, _+_, _*_, _/_, _%_, _^_, _≤_, _<_}
 use native.Mathlib.Omega.{arith}
+use borrow.Author.Tests.{le-leb, lt-leb}
 use lib.ListN.{getD, length}
 use Rattle.word.specs.Extend.{sum24}
 use Rattle.insn.specs.declared.Size.the-variants.{Half}
 use Rattle.insn.specs.declared.Decoded.{Decoded}
 use Rattle.insn.specs.declared.Decoded.the-variants.{Undefined}
-use Rattle.insn.specs.Coding.{long, decode}
+use Rattle.insn.specs.Coding.{reg2Of, opcodeOf, reg1Of, decodeFields, decode}
 use Rattle.machine.specs.declared.Tv.{Tv}
 use Rattle.machine.specs.declared.Open.{Open}
 use Rattle.machine.specs.declared.Spot.{Spot}
@@ -20,7 +21,7 @@ use Rattle.machine.specs.Marked.{liftAll, Cells, both}
 use Rattle.machine.specs.Regions.{FETCH, find}
 use Rattle.machine.specs.Memory.{bytesAt, littleEndian}
 use Rattle.machine.specs.InvariantLaws.{half-lt}
-use Rattle.machine.specs.Step.{Outcome, refuse, execute, fetch, instruction}
+use Rattle.machine.specs.Step.{Outcome, refuse, execute, fetch, completed, instruction}
 use Rattle.state.specs.declared.Place.{Place}
 use Rattle.state.specs.Windows.{spotOf}
 use Rattle.step.specs.declared.Fetched.{Fetched}
@@ -82,16 +83,21 @@ module _ (map : List ℕ) (a : ℕ) (even : a % 2 ≡ 0) {s : Spot} (e : s ≡ f
       unfolding fetch
       fetch-found t q = placed map FETCH NoFetch c m _ (cleared a b even same) e at-p (opened o c m k read t q)
 
-  -- the instruction at PC a: its first halfword h is at place p, and asks for a second one at b, or not
-  module _ (o : Open) (c m : Cells) (at-a : o .pc ≡ a) {p : ℕ} (at-p : s ≡ At p) {h : Tv} (read : h ≡ liftAll littleEndian (bytesAt m p Half))
-      (open-half : h .mark ≡ false) where
-    pub instruction-long : {b : ℕ} {x : Outcome} → long (h .val) ≡ true → b ≡ sum24 a 2
-        → x ≡ fetch b map o c m (λ w. execute (decode (h .val) w) map o c m) → x ≡ instruction map o c m
-    unfolding instruction
-    instruction-long t r q =
-        fetch-found o c m at-a _ at-p read open-half
-        (rw t (q ∙ ap (λ (y : ℕ). fetch y map o c m (λ w. execute (decode (h .val) w) map o c m)) (r ∙ ap (λ (y : ℕ). sum24 y 2) (sym at-a))))
+  -- the instruction at PC a: its first halfword h is at place p
+  pub instruction-found : (o : Open) (c m : Cells) → o .pc ≡ a → {p : ℕ} → s ≡ At p → {h : Tv} → h ≡ liftAll littleEndian (bytesAt m p Half)
+      → h .mark ≡ false → {x : Outcome} → x ≡ completed (h .val) map o c m → x ≡ instruction map o c m
+  unfolding instruction
+  instruction-found o c m at-a at-p read open-half q = fetch-found o c m at-a _ at-p read open-half q
 
-    pub instruction-short : {x : Outcome} → long (h .val) ≡ false → x ≡ execute (decode (h .val) 0) map o c m → x ≡ instruction map o c m
-    unfolding instruction
-    instruction-short t q = fetch-found o c m at-a _ at-p read open-half (rw t q)
+-- what a halfword h with these fields asks for: a second one, or none
+module _ (h : ℕ) {reg2 opcode reg1 : ℕ} (r2 : reg2 ≡ reg2Of h) (code : opcode ≡ opcodeOf h) (r1 : reg1 ≡ reg1Of h)
+    (map : List ℕ) (o : Open) (c m : Cells) {x : Outcome} where
+  pub completed-long : {a k : ℕ} → o .pc ≡ a → opcode ≡ k → 0b110000 ≤ k
+      → x ≡ fetch (sum24 a 2) map o c m (λ w. execute (decodeFields reg2 k reg1 w) map o c m) → x ≡ completed h map o c m
+  unfolding decode
+  completed-long at-a e t q =
+      rw (le-leb 0b110000 (opcodeOf h) (omega arith))
+      ((rw (r2, r1, sym e ∙ code) at q) ∙ ap (λ (y : ℕ). fetch (sum24 y 2) map o c m (λ w. execute (decode h w) map o c m)) (sym at-a))
+
+  pub completed-short : opcode < 0b110000 → x ≡ execute (decode h 0) map o c m → x ≡ completed h map o c m
+  completed-short t q = rw (lt-leb 0b110000 (opcodeOf h) (omega arith)) q

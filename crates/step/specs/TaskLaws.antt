@@ -7,7 +7,8 @@ use Rattle.insn.specs.declared.Insn.{Insn}
 use Rattle.insn.specs.declared.Insn.the-variants.{Reg, Jmp, Imm5, Sld, Sst, Bcond, Imm16, Ld, St, Jarl, Bit, Setf, Ldsr, Stsr, Shift, Trap, Halt, Reti, Di, Ei}
 use Rattle.insn.specs.declared.Decoded.{Decoded}
 use Rattle.insn.specs.declared.Decoded.the-variants as decoded
-use Rattle.insn.specs.Coding.{imm5Shifts, imm16Plain, loads, stores, isReg, isCondition, isSigned, isUnsigned, multiple, isShortDisp, isLongDisp, inRange, decode}
+use Rattle.insn.specs.Coding.{imm5Shifts, imm16Plain, loads, stores, isReg, isCondition, isSigned, isUnsigned, multiple, isShortDisp, isLongDisp, inRange, half, decodeFields, decode}
+use Rattle.insn.specs.CodingLaws.{fields}
 use Rattle.insn.specs.RoundTrip.{decode-in-range}
 use Rattle.machine.specs.RegionLaws.{and-true}
 use Rattle.step.specs.Tasks.{DecodedFields}
@@ -76,3 +77,9 @@ decoded-fields h w a b = go (decode h w) (decode-in-range h w a b)
     go (decoded.Valid i) f = f i refl
     go decoded.Illegal f = tt
     go decoded.Undefined f = tt
+
+-- and so has what decodes from a halfword's fields and a second one
+pub fields-decoded : (reg2 opcode reg1 w : ℕ) → reg2 < 32 → opcode < 64 → reg1 < 32 → w < 2 ^ 16 → DecodedFields (decodeFields reg2 opcode reg1 w)
+unfolding decode
+fields-decoded reg2 opcode reg1 w a b c d =
+    let f = fields reg2 opcode reg1 a b c in rw (f .1, f .2, f .3) at (decoded-fields (half reg2 opcode reg1) w (f .0) d)

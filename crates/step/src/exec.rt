@@ -2,13 +2,13 @@
 ghost use mathlib.Core.Path.{_≡_};
 ghost use mathlib.Core.Bool.{true};
 ghost use mathlib.Core.List.{List};
-ghost use Prim.Native.Nat.{ℕ, _%_};
+ghost use Prim.Native.Nat.{ℕ, _%_, _≤_, _<_};
 ghost use Rattle.machine.specs.Marked.{Cells, both};
 ghost use Rattle.word.specs.Extend.{sum24};
-ghost use Rattle.insn.specs.Coding.{long, decode};
+ghost use Rattle.insn.specs.Coding.{decodeFields};
 ghost use Rattle.machine.specs.Regions.{FETCH};
 ghost use Rattle.state.specs.Windows.{Onward};
-ghost use Rattle.machine.specs.Step.{after, execute, fetch, instruction, step};
+ghost use Rattle.machine.specs.Step.{after, completed, execute, fetch, instruction, step};
 ghost use Rattle.step.specs.Tasks.{openOf, wentOf, wentWide, acts, doSystem, doTask, SystemFields, TaskFields, DecodedFields, fetched, Prepared};
 use crate::Fetched;
 use crate::Out;
@@ -178,8 +178,7 @@ fn unfetched(answer: Answer, place: u32) -> Fetched
     }
 }
 
-// A second halfword is fetched only if the first asks for it. Each form is decoded as soon as it is at hand: so the compiler need not
-// ask for the form again.
+// The halfword at PC, and what follows from it.
 fn fetch(map: &[u32; 16], sizes: &[u32; 12], pc: u32, mem: &[u8], marks: &[u8]) -> Fetched
     requires { ⌜ Prepared (now map) (now sizes) (now mem) (now marks) × (pc % 2 ≡ 0) ⌝ }
     ensures { λ r. ⌜ DecodedFields (r .decoded) × ((o : Open) (c : Cells) → o .pc ≡ pc → fetched r (now (map .entry)) o c (both (now (mem .entry)) (now (marks .entry))) ≡ instruction (now (map .entry)) o c (both (now (mem .entry)) (now (marks .entry)))) ⌝ }
@@ -192,29 +191,65 @@ fn fetch(map: &[u32; 16], sizes: &[u32; 12], pc: u32, mem: &[u8], marks: &[u8]) 
     if h.mark {
         return unfetched(Answer::Leak, pc);
     }
-    let first = h.val as u16;
-    if decode::is_long(first) {
-        return fetch_second(map, sizes, first, pc, p, mem, marks);
-    }
-    Fetched {
-        answer: Answer::Done,
-        place: 0,
-        decoded: decode::one(first),
-    }
+    complete(h.val, map, sizes, pc, p, mem, marks)
 }
 
-// The first halfword lies at p.
-fn fetch_second(
+// A second halfword is fetched only if the first, h, which lies at p, asks for it. An opcode that does has an arm of its own, and so have
+// the others in `decode::short`: the compiler makes one table of all opcodes, and what follows knows its own.
+fn complete(
+    h: u32,
     map: &[u32; 16],
     sizes: &[u32; 12],
-    first: u16,
     pc: u32,
     p: Place,
     mem: &[u8],
     marks: &[u8],
 ) -> Fetched
-    requires { ⌜ Prepared (now map) (now sizes) (now mem) (now marks) × (pc % 2 ≡ 0) × (long first ≡ true) × Onward (now map) FETCH pc p ⌝ }
-    ensures { λ r. ⌜ DecodedFields (r .decoded) × ((o : Open) (c : Cells) → o .pc ≡ pc → fetched r (now (map .entry)) o c (both (now (mem .entry)) (now (marks .entry))) ≡ fetch (sum24 pc 2) (now (map .entry)) o c (both (now (mem .entry)) (now (marks .entry))) (λ w. execute (decode first w) (now (map .entry)) o c (both (now (mem .entry)) (now (marks .entry))))) ⌝ }
+    requires { ⌜ (h < 65536) × Prepared (now map) (now sizes) (now mem) (now marks) × (pc % 2 ≡ 0) × Onward (now map) FETCH pc p ⌝ }
+    ensures { λ r. ⌜ DecodedFields (r .decoded) × ((o : Open) (c : Cells) → o .pc ≡ pc → fetched r (now (map .entry)) o c (both (now (mem .entry)) (now (marks .entry))) ≡ completed h (now (map .entry)) o c (both (now (mem .entry)) (now (marks .entry)))) ⌝ }
+{
+    let reg2 = decode::reg2_of(h);
+    let opcode = decode::opcode_of(h);
+    let reg1 = decode::reg1_of(h);
+    match opcode {
+        0b110000 => fetch_second(reg2, 0b110000, reg1, map, sizes, pc, p, mem, marks),
+        0b110001 => fetch_second(reg2, 0b110001, reg1, map, sizes, pc, p, mem, marks),
+        0b110010 => fetch_second(reg2, 0b110010, reg1, map, sizes, pc, p, mem, marks),
+        0b110011 => fetch_second(reg2, 0b110011, reg1, map, sizes, pc, p, mem, marks),
+        0b110100 => fetch_second(reg2, 0b110100, reg1, map, sizes, pc, p, mem, marks),
+        0b110101 => fetch_second(reg2, 0b110101, reg1, map, sizes, pc, p, mem, marks),
+        0b110110 => fetch_second(reg2, 0b110110, reg1, map, sizes, pc, p, mem, marks),
+        0b110111 => fetch_second(reg2, 0b110111, reg1, map, sizes, pc, p, mem, marks),
+        0b111000 => fetch_second(reg2, 0b111000, reg1, map, sizes, pc, p, mem, marks),
+        0b111001 => fetch_second(reg2, 0b111001, reg1, map, sizes, pc, p, mem, marks),
+        0b111010 => fetch_second(reg2, 0b111010, reg1, map, sizes, pc, p, mem, marks),
+        0b111011 => fetch_second(reg2, 0b111011, reg1, map, sizes, pc, p, mem, marks),
+        0b111100 => fetch_second(reg2, 0b111100, reg1, map, sizes, pc, p, mem, marks),
+        0b111101 => fetch_second(reg2, 0b111101, reg1, map, sizes, pc, p, mem, marks),
+        0b111110 => fetch_second(reg2, 0b111110, reg1, map, sizes, pc, p, mem, marks),
+        0b111111 => fetch_second(reg2, 0b111111, reg1, map, sizes, pc, p, mem, marks),
+        _ => Fetched {
+            answer: Answer::Done,
+            place: 0,
+            decoded: decode::short(h, reg2, opcode, reg1),
+        },
+    }
+}
+
+// The second halfword, behind a first one that lies at p and has these fields.
+fn fetch_second(
+    reg2: u32,
+    opcode: u32,
+    reg1: u32,
+    map: &[u32; 16],
+    sizes: &[u32; 12],
+    pc: u32,
+    p: Place,
+    mem: &[u8],
+    marks: &[u8],
+) -> Fetched
+    requires { ⌜ (reg2 < 32) × (0b110000 ≤ opcode) × (opcode < 64) × (reg1 < 32) × Prepared (now map) (now sizes) (now mem) (now marks) × (pc % 2 ≡ 0) × Onward (now map) FETCH pc p ⌝ }
+    ensures { λ r. ⌜ DecodedFields (r .decoded) × ((o : Open) (c : Cells) → o .pc ≡ pc → fetched r (now (map .entry)) o c (both (now (mem .entry)) (now (marks .entry))) ≡ fetch (sum24 pc 2) (now (map .entry)) o c (both (now (mem .entry)) (now (marks .entry))) (λ w. execute (decodeFields reg2 opcode reg1 w) (now (map .entry)) o c (both (now (mem .entry)) (now (marks .entry))))) ⌝ }
 {
     match regions::second(map, sizes, p, pc) {
         Spot::At(q) => {
@@ -225,7 +260,7 @@ fn fetch_second(
             Fetched {
                 answer: Answer::Done,
                 place: 0,
-                decoded: decode::two(first, h.val as u16),
+                decoded: decode::long(reg2, opcode, reg1, h.val),
             }
         }
         Spot::Nowhere => unfetched(Answer::NoFetch, extend::sum24(pc, 2)),

@@ -1,4 +1,4 @@
--- From 110000, by the low four bits of the opcode: each arm is the law in `Arms`, or computes; none is left for the last one.
+-- From 110000: each arm is the law in `Arms`, or computes; none is left for the last one.
 use mathlib.Core.Path.{_∙_}
 use native.Mathlib.Omega.{arith}
 use borrow.Author.Tests.{eq-eqb, ne-eqb}

@@ -3,7 +3,7 @@ use mathlib.Core.Path.{refl, sym, _∙_}
 use native.Mathlib.Omega.{arith}
 use denote.Ref.{now}
 use Rattle.word.specs.Extend.{sum24}
-use Rattle.step.specs.TaskLaws.{decoded-fields}
+use Rattle.step.specs.TaskLaws.{fields-decoded}
 use Rattle.step.specs.StepLaws.{finds}
 use Rattle.step.specs.FetchLaws.{undecoded, not-fetched, next-even, half-small, half-fits, fetch-nowhere, fetch-secret, fetch-found}
 use borrow.Author.Needs.{needs}
@@ -13,7 +13,7 @@ use Rattle.step.proofs.exec.fetch_second.Tie as tie
 second-requires : tie.Need-second-requires
 second-requires c κs =
     let pre′ = c .before .before .pre in
-    let f = finds (pre′ .0) {n = 0} (omega arith) in (f .1, f .2, pre′ .3)
+    let f = finds (pre′ .4) {n = 0} (omega arith) in (f .1, f .2, pre′ .6)
 
 enum-known-q : tie.Need-enum-known-q
 enum-known-q c = search needs
@@ -23,7 +23,7 @@ fetch-requires c κs =
     let args′ = c .before .before .before .before .before .before .args in
     let pre′ = c .before .before .before .before .before .before .pre in
     let second′ = c .before .before .before .second in
-    half-fits (now (args′ .map)) (sum24 (args′ .pc) 2) (next-even (args′ .pc) (pre′ .1)) (second′ .ensures) (pre′ .0) (c .before .q .given .1)
+    half-fits (now (args′ .map)) (sum24 (args′ .pc) 2) (next-even (args′ .pc) (pre′ .5)) (second′ .ensures) (pre′ .4) (c .before .q .given .1)
 
 unfetched-requires : tie.Need-unfetched-requires
 unfetched-requires c κs = search needs
@@ -37,21 +37,17 @@ returns c =
     let fetch′ = c .before .before .fetch in (
       undecoded (c .unfetched .ensures .2),
       λ o cs e. not-fetched (c .unfetched .result) _ o (c .unfetched .ensures .0) (c .unfetched .ensures .1 ∙ sym e) refl
-          (fetch-secret (now (args′ .map)) (sum24 (args′ .pc) 2) (next-even (args′ .pc) (pre′ .1)) (second′ .ensures) o cs _ refl _ (q′ .given .1) (fetch′ .ensures) (c .before .if1 .taken)),
+          (fetch-secret (now (args′ .map)) (sum24 (args′ .pc) 2) (next-even (args′ .pc) (pre′ .5)) (second′ .ensures) o cs _ refl _ (q′ .given .1) (fetch′ .ensures) (c .before .if1 .taken)),
     )
 
-cast-two : tie.Need-cast-two
-cast-two c =
-    let args′ = c .before .before .before .before .before .before .before .before .before .args in
-    let shared-slice-known′ = c .before .before .before .before .before .before .before .before .shared-slice-known in
-    let q′ = c .before .before .before .before .q in
-    let fetch′ = c .before .before .fetch in
-    omega (arith, half-small (now (args′ .mem)) (now (args′ .marks)) (q′ .given .0 .0) (λ i. omega (arith, shared-slice-known′ .given i)) (fetch′ .ensures))
-
-two-requires : tie.Need-two-requires
-two-requires c κs =
-    let pre′ = c .before .before .before .before .before .before .before .before .before .pre in
-    pre′ .2
+long-requires : tie.Need-long-requires
+long-requires c κs =
+    let args′ = c .before .before .before .before .before .before .before .before .args in
+    let pre′ = c .before .before .before .before .before .before .before .before .pre in
+    let shared-slice-known′ = c .before .before .before .before .before .before .before .shared-slice-known in
+    let q′ = c .before .before .before .q in
+    let small = half-small (now (args′ .mem)) (now (args′ .marks)) (q′ .given .0 .0) (λ i. omega (arith, shared-slice-known′ .given i)) (c .before .fetch .ensures) in
+    (pre′ .0, pre′ .1, pre′ .2, pre′ .3, small)
 
 enum-told : tie.Need-enum-told
 enum-told c = search needs
@@ -64,15 +60,16 @@ unfetched-requires-2 c κs = search needs
 
 returns-2 : tie.Need-returns-2
 returns-2 c =
-    let args′ = c .before .before .before .before .before .before .before .before .before .before .args in
-    let pre′ = c .before .before .before .before .before .before .before .before .before .before .pre in
-    let shared-slice-known′ = c .before .before .before .before .before .before .before .before .before .shared-slice-known in
-    let second′ = c .before .before .before .before .before .before .before .second in
-    let q′ = c .before .before .before .before .before .q in
-    let fetch′ = c .before .before .before .fetch in
-    let if1′ = c .before .before .if1 in
-    let small = half-small (now (args′ .mem)) (now (args′ .marks)) (q′ .given .0 .0) (λ i. omega (arith, shared-slice-known′ .given i)) (fetch′ .ensures) in
-    (rw (c .two .ensures) (decoded-fields _ _ (omega arith) small), λ o cs e. fetch-found (now (args′ .map)) (sum24 (args′ .pc) 2) (next-even (args′ .pc) (pre′ .1)) (second′ .ensures) o cs _ refl _ (q′ .given .1) (fetch′ .ensures) (if1′ .left) (rw (c .two .ensures)))
+    let args′ = c .before .before .before .before .before .before .before .before .before .args in
+    let pre′ = c .before .before .before .before .before .before .before .before .before .pre in
+    let shared-slice-known′ = c .before .before .before .before .before .before .before .before .shared-slice-known in
+    let second′ = c .before .before .before .before .before .before .second in
+    let q′ = c .before .before .before .before .q in
+    let fetch′ = c .before .before .fetch in
+    let small = half-small (now (args′ .mem)) (now (args′ .marks)) (q′ .given .0 .0) (λ i. omega (arith, shared-slice-known′ .given i)) (fetch′ .ensures) in (
+      rw (c .long .ensures) (fields-decoded _ _ _ _ (pre′ .0) (pre′ .2) (pre′ .3) small),
+      λ o cs e. fetch-found (now (args′ .map)) (sum24 (args′ .pc) 2) (next-even (args′ .pc) (pre′ .5)) (second′ .ensures) o cs _ refl _ (q′ .given .1) (fetch′ .ensures) (c .before .if1 .left) (rw (c .long .ensures)),
+    )
 
 returns-3 : tie.Need-returns-3
 returns-3 c =
@@ -82,7 +79,7 @@ returns-3 c =
     let enum-told′ = c .before .before .enum-told in (
       undecoded (c .unfetched2 .ensures .2),
       λ o cs e. not-fetched (c .unfetched2 .result) _ o (c .unfetched2 .ensures .0) (c .unfetched2 .ensures .1 ∙ c .before .sum24 .ensures) refl
-          (fetch-nowhere (now (args′ .map)) (sum24 (args′ .pc) 2) (next-even (args′ .pc) (pre′ .1)) (second′ .ensures) o cs _ refl _ (enum-told′ .given .1)),
+          (fetch-nowhere (now (args′ .map)) (sum24 (args′ .pc) 2) (next-even (args′ .pc) (pre′ .5)) (second′ .ensures) o cs _ refl _ (enum-told′ .given .1)),
     )
 
 pub fetch-second-spec : {M : Type 1} → statement M
@@ -94,8 +91,7 @@ fetch-second-spec =
     fetch-requires
     unfetched-requires
     returns
-    cast-two
-    two-requires
+    long-requires
     enum-told
     sum24-requires
     unfetched-requires-2
