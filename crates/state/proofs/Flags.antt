@@ -94,12 +94,13 @@ none k e z = ap₂ (λ (b : Bool) (x : ℕ). cond b (new k (everyFlag true)) 0 +
     at-rest Arith = refl
     at-rest Saturate = refl
 
--- SAT as an operation raises it
-pub raised : (b : Bool) (n : ℕ) → bitOr (n / 16 % 2 * 16) (cond b 16 0) ≡ cond (bit 4 n || b) 16 0
-raised b n = at-bit b (n / 16 % 2) (omega arith)
+-- OV, and SAT as an operation raises it, written together
+pub raised : (b : Bool) (x y n : ℕ) → x + y + bitOr (n / 16 % 2 * 16) (cond b 20 0) ≡ x + cond b 4 0 + y + cond (bit 4 n || b) 16 0
+raised b x y n = omega (arith, at-bit b (n / 16 % 2) (omega arith))
   where
-    at-bit : (t : Bool) (r : ℕ) → r < 2 → bitOr (r * 16) (cond t 16 0) ≡ cond (eqb r 1 || t) 16 0
-    at-bit t zero h = refl
+    at-bit : (t : Bool) (r : ℕ) → r < 2 → bitOr (r * 16) (cond t 20 0) ≡ cond t 4 0 + cond (eqb r 1 || t) 16 0
+    at-bit true zero h = refl
+    at-bit false zero h = refl
     at-bit true (suc zero) h = refl
     at-bit false (suc zero) h = refl
     at-bit t (suc (suc r)) h = omega arith

@@ -84,13 +84,13 @@ pub fn arith_flags(a: Computed, mark: bool, cells: &mut [u32; 38], tags: &mut [u
     put_marks(mark, marks(mark, 15) + tags[FLAGS] / 16 % 2 * 16, tags);
 }
 
-// SAT is raised by OV, and its mark is added to.
+// SAT is raised by OV, and its mark is added to. OV and a raised SAT are written together.
 pub fn saturate_flags(a: Computed, mark: bool, cells: &mut [u32; 38], tags: &mut [u8; 38])
     ensures { λ _. ⌜ both (now (cells .exit)) (now (tags .exit)) ≡ setFlags Kind.Saturate a mark (both (now (cells .entry)) (now (tags .entry))) ⌝ }
 {
-    let sat = (cells[FLAGS] / 16 % 2 * 16) | on(a.ov, 16);
+    let sat = (cells[FLAGS] / 16 % 2 * 16) | on(a.ov, 20);
     let sat_mark = (tags[FLAGS] / 16 % 2 == 1) | mark;
-    cells[FLAGS] = on(a.z, 1) + on(a.s, 2) + on(a.ov, 4) + on(a.cy, 8) + sat;
+    cells[FLAGS] = on(a.z, 1) + on(a.s, 2) + on(a.cy, 8) + sat;
     put_marks(mark, marks(mark, 15) + marks(sat_mark, 16), tags);
 }
 

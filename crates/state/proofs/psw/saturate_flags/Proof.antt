@@ -1,4 +1,4 @@
--- The sums that are written are those of the family's rules (`set-flags`, and `raised` for SAT); where nothing is marked, the sum of marks is 0 (`none`).
+-- The sums that are written are those of the family's rules (`set-flags`, and `raised` for OV and SAT); where nothing is marked, the sum of marks is 0 (`none`).
 use mathlib.Core.Path.{refl}
 use Prim.Native.Nat.{_*_, _/_, _%_}
 use native.Mathlib.Omega.{arith}
@@ -38,15 +38,9 @@ on-requires-4 c κs = search needs
 add-cells-2 : tie.Need-add-cells-2
 add-cells-2 c = search needs
 
-on-requires-5 : tie.Need-on-requires-5
-on-requires-5 c κs = search needs
-
 add-cells-3 : tie.Need-add-cells-3
-add-cells-3 c = search needs
-
-add-cells-4 : tie.Need-add-cells-4
-add-cells-4 c =
-    let s = c .before .before .before .before .before in
+add-cells-3 c =
+    let s = c .before .before .before .before in
     let kept = getD (now (s .before .before .args .cells)) 37 0 / 16 % 2 * 16 in
     record { fits = omega (arith, or-lt 5 kept (s .on .result) (omega arith) (omega arith)) }
 
@@ -68,11 +62,10 @@ put-marks-requires c κs e z = rw (c .before .before .marks .ensures .0, c .befo
 returns : tie.Need-returns
 returns c =
     rw (
-      c .before .before .before .before .before .before .before .on2 .ensures .0,
-      c .before .before .before .before .before .before .on3 .ensures .0,
-      c .before .before .before .before .before .on4 .ensures .0,
-      c .before .before .before .before .on5 .ensures .0,
-      c .before .before .before .before .before .before .before .before .before .on .ensures .0,
+      c .before .before .before .before .before .before .on2 .ensures .0,
+      c .before .before .before .before .before .on3 .ensures .0,
+      c .before .before .before .before .on4 .ensures .0,
+      c .before .before .before .before .before .before .before .before .on .ensures .0,
       raised,
       c .put-marks .ensures,
       c .before .before .before .marks .ensures .0,
@@ -93,9 +86,7 @@ saturate-flags-spec =
     add-cells
     on-requires-4
     add-cells-2
-    on-requires-5
     add-cells-3
-    add-cells-4
     element-write-cells
     marks-requires
     marks-requires-2
