@@ -22,6 +22,10 @@ seen-small map n k = go (eqb (rights map k / 2 ^ n % 2) 1)
     go true = omega arith
     go false = omega arith
 
+-- what a right sees of region k lies within the largest memory
+pub seen-places : {map sizes : List ℕ} {n : ℕ} → (n < 3) × Sizes map sizes × Laid map → (k : ℕ) → k < 4 → offset map k + getD sizes (4 * n + k) 0 ≤ 2 ^ 16
+seen-places {map} {sizes} {n} pre k h = omega (arith, pre .1 .each n k (pre .0) h, pre .2 .places k h, seen-small map n k)
+
 only : (map : List ℕ) → Laid map → (right a k : ℕ) → k < 4 → covers map right a k ≡ true → find map right a ≡ At (offset map k + (a - base map k))
 unfolding findFrom
 only map laid right a k l h = from 4 0 (omega arith) (omega arith)
@@ -46,7 +50,7 @@ near map sizes n a k = ltb (difference a (base map k)) (getD sizes (4 * n + k) 0
 module _ {map sizes : List ℕ} {n : ℕ} (pre : (n < 3) × Sizes map sizes × Laid map) (a : ℕ) (word : a < 2 ^ 32) where
   -- it holds: region k covers what is left of it, too
   pub placed : (p : Place) (k : ℕ) → k < 4
-      → (p .found ≡ true) × (p .at ≡ offset map k + difference a (base map k)) × (p .left + difference a (base map k) ≡ getD sizes (4 * n + k) 0) × (p .at < 2 ^ 33)
+      → (p .found ≡ true) × (p .at ≡ offset map k + difference a (base map k)) × (p .left + difference a (base map k) ≡ getD sizes (4 * n + k) 0)
       → {t : Bool} → t ≡ near map sizes n a k → t ≡ true
       → (spotOf p ≡ find map (2 ^ n) a) × Onward map (2 ^ n) a p
   placed p k h e s t =
@@ -60,7 +64,6 @@ module _ {map sizes : List ℕ} {n : ℕ} (pre : (n < 3) × Sizes map sizes × L
         record {
           each = λ i j. only map (pre .2) (2 ^ n) (a + i) k h (inside map n (a + i) k within (omega arith) (omega arith) .0) ∙ ap At (omega arith);
           below = λ i. omega arith;
-          small = e .3;
         },
       )
 

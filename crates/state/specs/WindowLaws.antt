@@ -8,7 +8,7 @@ use lib.Dec.{eqb, ltb, leb}
 use lib.ListN.{getD}
 use borrow.Author.Tests.{eqb-true, eq-eqb, leb-true, le-leb, lt-ltb, le-ltb, ltb-true, ltb-false}
 use Rattle.word.specs.Sums.{difference}
-use Rattle.machine.specs.Regions.{base, size, rights, covers, goodRegion, unused, goodMap}
+use Rattle.machine.specs.Regions.{base, size, offset, rights, covers, goodRegion, unused, goodMap}
 use Rattle.machine.specs.RegionLaws.{four, and-true, used, good-at, covered, disjoint, separate-at}
 use Rattle.state.specs.Windows.{seen, Sizes, Laid}
 
@@ -40,22 +40,23 @@ module _ (map : List ℕ) (n a k : ℕ) (within : base map k + size map k ≤ 2 
       go false e true f l = rw (f, e, and-false)
       go false e false f l = rw f
 
--- an unused region has no base
-unused-base : (map : List ℕ) (n k : ℕ) → goodRegion map n k ≡ true → size map k ≡ 0 → base map k ≡ 0
+-- an unused region has no base and no offset
+unused-zero : (map : List ℕ) (n k : ℕ) → goodRegion map n k ≡ true → size map k ≡ 0 → (base map k ≡ 0) × (offset map k ≡ 0)
 unfolding goodRegion
-unused-base map n k h e =
-    let g : unused map k ≡ true = rw (eq-eqb (size map k) 0 e) at h in eqb-true (base map k) 0 (and-true _ _ g .0)
+unused-zero map n k h e =
+    let g : unused map k ≡ true = rw (eq-eqb (size map k) 0 e) at h in
+    let g1 = and-true _ _ g in (eqb-true (base map k) 0 (g1 .0), eqb-true (offset map k) 0 (and-true _ _ (g1 .1) .0))
 
--- a good map's regions stay below the end of the addresses, and do not overlap
-pub good-laid : (map : List ℕ) (n : ℕ) → goodMap map n ≡ true → Laid map
-good-laid map n g = record { below = below; apart = apart }
+-- a good map's regions stay below the end of the addresses and of memory, and do not overlap
+pub good-laid : (map : List ℕ) (n : ℕ) → n ≤ 2 ^ 16 → goodMap map n ≡ true → Laid map
+good-laid map n small g = record { below = λ k l. ends k l .0; places = λ k l. ends k l .1; apart = apart }
   where
-    below : (k : ℕ) → k < 4 → base map k + size map k ≤ 2 ^ 24
-    below k l = go (size map k) refl
+    ends : (k : ℕ) → k < 4 → (base map k + size map k ≤ 2 ^ 24) × (offset map k + size map k ≤ 2 ^ 16)
+    ends k l = go (size map k) refl
       where
-        go : (s : ℕ) → size map k ≡ s → base map k + size map k ≤ 2 ^ 24
-        go zero e = omega (arith, unused-base map n k (good-at map n g k l) e)
-        go (suc s) e = omega (arith, used map n k (good-at map n g k l) (omega arith) .addresses)
+        go : (s : ℕ) → size map k ≡ s → (base map k + size map k ≤ 2 ^ 24) × (offset map k + size map k ≤ 2 ^ 16)
+        go zero e = let z = unused-zero map n k (good-at map n g k l) e in (omega arith, omega arith)
+        go (suc s) e = let b = used map n k (good-at map n g k l) (omega arith) in (omega (arith, b .addresses), omega (arith, b .places))
 
     apart : (right a j k : ℕ) → j < 4 → k < 4 → covers map right a j ≡ true → covers map right a k ≡ true → j ≡ k
     apart right a j k h l c d = go (ltb j k) refl (ltb k j) refl

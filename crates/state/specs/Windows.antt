@@ -8,7 +8,7 @@ use lib.Dec.{eqb}
 use lib.ListN.{getD}
 use Rattle.machine.specs.declared.Spot.{Spot}
 use Rattle.machine.specs.declared.Spot.the-variants.{At, Nowhere}
-use Rattle.machine.specs.Regions.{base, size, rights, covers, find}
+use Rattle.machine.specs.Regions.{base, size, offset, rights, covers, find}
 use Rattle.state.specs.declared.Place.{Place}
 
 -- the size of region k to the right of bit n: a region that lacks the right is as good as none
@@ -18,9 +18,10 @@ seen map n k = cond (eqb (rights map k / 2 ^ n % 2) 1) (size map k) 0
 pub record Sizes (map sizes : List ℕ) : Type 0 where
   pub each : (n k : ℕ) → n < 3 → k < 4 → getD sizes (4 * n + k) 0 ≡ seen map n k
 
--- a map with which the code finds addresses: no region passes the end of the addresses, and no two cover the same one
+-- a map with which the code finds addresses: its regions end within the addresses and the largest memory, and no two cover one address
 pub record Laid (map : List ℕ) : Type 0 where
   pub below : (k : ℕ) → k < 4 → base map k + size map k ≤ 2 ^ 24
+  pub places : (k : ℕ) → k < 4 → offset map k + size map k ≤ 2 ^ 16
   pub apart : (right a j k : ℕ) → j < 4 → k < 4 → covers map right a j ≡ true → covers map right a k ≡ true → j ≡ k
 
 -- what was found
@@ -31,4 +32,3 @@ spotOf p = cond (p .found) (At (p .at)) Nowhere
 pub record Onward (map : List ℕ) (right a : ℕ) (p : Place) : Type 0 where
   pub each : (i : ℕ) → i < p .left → find map right (a + i) ≡ At (p .at + i)
   pub below : 0 < p .left → a + p .left ≤ 2 ^ 24
-  pub small : p .at < 2 ^ 33

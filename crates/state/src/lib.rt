@@ -16,6 +16,6 @@ pub struct Tested {
 // Where an address lies in memory, if a region covers it, and how many bytes that region has from there on.
 pub struct Place {
     pub found: bool,
-    pub at: usize,
+    pub at: u32,
     pub left: u32,
 }

@@ -1,6 +1,6 @@
 // The map: base, length, offset and rights of each of four regions.
 ghost use mathlib.Core.Path.{_≡_};
-ghost use Prim.Native.Nat.{_+_, _*_, _^_, _<_};
+ghost use Prim.Native.Nat.{_+_, _*_, _^_, _≤_, _<_};
 ghost use mathlib.Core.Bool.{true};
 ghost use lib.Dec.{ltb};
 ghost use lib.ListN.{getD};
@@ -99,13 +99,13 @@ fn inside(map: &[u32; 16], sizes: &[u32; 12], right: u32, k: usize, a: u32) -> b
 
 // Where the address lies in region k, which covers it.
 fn place(map: &[u32; 16], sizes: &[u32; 12], right: u32, k: usize, a: u32) -> Place
-    requires { ⌜ (right < 3) × (k < 4) × (difference a (base (now map) k) < getD (now sizes) (4 * right + k) 0) ⌝ }
-    ensures { λ r. ⌜ (r .found ≡ true) × (r .at ≡ offset (now (map .entry)) k + difference a (base (now (map .entry)) k)) × (r .left + difference a (base (now (map .entry)) k) ≡ getD (now (sizes .entry)) (4 * right + k) 0) × (r .at < 2 ^ 33) ⌝ }
+    requires { ⌜ (right < 3) × (k < 4) × (difference a (base (now map) k) < getD (now sizes) (4 * right + k) 0) × (offset (now map) k + getD (now sizes) (4 * right + k) 0 ≤ 2 ^ 16) ⌝ }
+    ensures { λ r. ⌜ (r .found ≡ true) × (r .at ≡ offset (now (map .entry)) k + difference a (base (now (map .entry)) k)) × (r .left + difference a (base (now (map .entry)) k) ≡ getD (now (sizes .entry)) (4 * right + k) 0) ⌝ }
 {
     let d = sums::difference(a, base(map, k));
     Place {
         found: true,
-        at: offset(map, k) as usize + d as usize,
+        at: offset(map, k) + d,
         left: size_to(sizes, right, k) - d,
     }
 }
@@ -141,7 +141,7 @@ pub fn find(map: &[u32; 16], sizes: &[u32; 12], right: u32, a: u32) -> Spot
 {
     let p = locate(map, sizes, right, a);
     if p.found {
-        Spot::At(p.at)
+        Spot::At(p.at as usize)
     } else {
         Spot::Nowhere
     }
@@ -153,7 +153,7 @@ pub fn second(map: &[u32; 16], sizes: &[u32; 12], p: Place, a: u32) -> Spot
     ensures { λ r. ⌜ r ≡ find (now (map .entry)) FETCH (sum24 a 2) ⌝ }
 {
     if 2 < p.left {
-        return Spot::At(p.at + 2);
+        return Spot::At(p.at as usize + 2);
     }
     find(map, sizes, TO_FETCH, extend::sum24(a, 2))
 }

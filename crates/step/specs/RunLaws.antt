@@ -55,7 +55,8 @@ pub record Going (b : ℕ) (map sizes m₀ k₀ : List ℕ) (x : Ended) (n : ℕ
 
 -- memory and marks as long as they were are prepared too
 pub still-prepared : {map sizes m k m₀ k₀ : List ℕ} → Prepared map sizes m₀ k₀ → length m ≡ length m₀ → length k ≡ length k₀ → Prepared map sizes m k
-still-prepared p h j = record { ready = record { good = rw h (p .ready .good); same = h ∙ p .ready .same ∙ sym j }; seen = p .seen }
+still-prepared p h j =
+    record { ready = record { good = rw h (p .ready .good); same = h ∙ p .ready .same ∙ sym j; small = omega (arith, p .ready .small) }; seen = p .seen }
 
 module _ {b n : ℕ} {map sizes m₀ k₀ m k : List ℕ} {x : Ended} {c : Cells} (o : Packed) (g : Going b map sizes m₀ k₀ x n (openOf o) c m k) where
   -- at the end of the budget

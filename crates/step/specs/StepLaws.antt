@@ -46,7 +46,7 @@ on h p q r = rw (h, p, q, r)
 module _ {map sizes mem marks : List ℕ} (p : Prepared map sizes mem marks) where
   -- the code can look for an address
   pub finds : {n : ℕ} → n < 3 → (n < 3) × Sizes map sizes × Laid map
-  finds h = (h, p .seen, good-laid map (length mem) (p .ready .good))
+  finds h = (h, p .seen, good-laid map (length mem) (p .ready .small) (p .ready .good))
 
   -- an operand that is found lies in memory whole, and its marks beside it
   pub fits : (s : Size) (right x : ℕ) {a at : ℕ} {f : Spot}

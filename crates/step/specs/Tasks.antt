@@ -2,7 +2,7 @@
 use mathlib.Core.Path.{_≡_}
 use mathlib.Core.Bool.{Bool, true, false, cond, _||_}
 use mathlib.Core.List.{List}
-use Prim.Native.Nat.{ℕ, _-_, _/_, _%_, _^_, _<_}
+use Prim.Native.Nat.{ℕ, _-_, _/_, _%_, _^_, _≤_, _<_}
 use lib.Dec.{eqb}
 use lib.ListN.{length}
 use Rattle.insn.specs.declared.Decoded.{Decoded}
@@ -128,6 +128,7 @@ TaskFields (OfSystem s) = SystemFields s
 pub record Ready (map mem marks : List ℕ) : Type 0 where
   pub good : goodMap map (length mem) ≡ true
   pub same : length mem ≡ length marks
+  pub small : length mem ≤ 2 ^ 16
 
 -- the same with the sizes that the code finds addresses by
 pub record Prepared (map sizes mem marks : List ℕ) : Type 0 where

@@ -187,7 +187,7 @@ fn fetch(map: &[u32; 16], sizes: &[u32; 12], pc: u32, mem: &[u8], marks: &[u8]) 
     if !p.found {
         return unfetched(Answer::NoFetch, pc);
     }
-    let h = memory::fetch(mem, marks, p.at);
+    let h = memory::fetch(mem, marks, p.at as usize);
     if h.mark {
         return unfetched(Answer::Leak, pc);
     }

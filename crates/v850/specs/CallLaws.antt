@@ -19,7 +19,7 @@ use Rattle.v850.specs.PackLaws.{Below}
 use Rattle.v850.specs.Entry.{Left, left, MEMORY, REPORT, goodSizes, wordsIn, finished, called}
 use Rattle.v850.specs.AlikeStarts.{Passes}
 use Rattle.v850.specs.SecrecyLaws.{formed}
-use Rattle.v850.specs.Secrecy.{called-passes, good-words, marks-long}
+use Rattle.v850.specs.Secrecy.{called-passes, good-words, marks-long, memory-small}
 
 module _ (block memory marks report : List ℕ) where
   pub sizes-good : length block ≡ BYTES → length report ≡ REPORT → length memory ≤ MEMORY → length marks ≡ length memory
@@ -46,7 +46,7 @@ module _ (block memory marks report : List ℕ) where
 module _ {block memory marks report : List ℕ} (p : Passes block memory marks report) {ws map nums tags : List ℕ} {core : Open}
     (we : ws ≡ wordsIn block) (me : map ≡ mapIn ws) (ce : core ≡ coreIn ws) (ne : nums ≡ numsIn ws) (te : tags ≡ marksIn ws) where
   pub starts-ready : Ready map memory marks
-  starts-ready = record { good = rw (me, we) (p .map); same = marks-long p }
+  starts-ready = record { good = rw (me, we) (p .map); same = marks-long p; small = memory-small p }
 
   pub starts-formed : Below (2 ^ 8) block → WellFormed core (both nums tags)
   starts-formed h = rw (ce, ne, te, we) (formed (good-words p h))

@@ -2,8 +2,8 @@
 use mathlib.Core.Path.{_≡_, refl, sym, ap, _∙_, subst}
 use mathlib.Core.Bool.{Bool, true, cond, true≢false}
 use mathlib.Core.List.{List, [], _∷_}
-use Prim.Native.Nat.{ℕ, _^_}
-use lib.Dec.{T, eqb, leb, eqb→eq}
+use Prim.Native.Nat.{ℕ, _^_, _≤_}
+use lib.Dec.{T, eqb, leb, eqb→eq, leb→le}
 use lib.ListN.{length}
 use mir.Facts.{and-yes}
 use Rattle.machine.specs.declared.Open.{Open}
@@ -40,11 +40,17 @@ module _ {block memory marks report : List ℕ} (p : Passes block memory marks r
   pub good-words : Below (2 ^ 8) block → Good (wordsIn block)
   good-words h = record { long = words-length block 0 WORDS; words = words-below block 0 WORDS h; state = p .state }
 
-  pub marks-long : length memory ≡ length marks
-  marks-long =
+  lengths : T (leb (length memory) MEMORY) × T (eqb (length marks) (length memory))
+  lengths =
       let t = and-yes (eqb (length block) BYTES) _ (subst T (sym (p .sizes)) tt) .1 in
       let u = and-yes (eqb (length report) REPORT) _ t .1 in
-      sym (eqb→eq (length marks) (length memory) (and-yes (leb (length memory) MEMORY) _ u .1))
+      and-yes (leb (length memory) MEMORY) _ u
+
+  pub memory-small : length memory ≤ MEMORY
+  memory-small = leb→le (length memory) MEMORY (lengths .0)
+
+  pub marks-long : length memory ≡ length marks
+  marks-long = sym (eqb→eq (length marks) (length memory) (lengths .1))
 
   memories : {memory′ marks′ : List ℕ} → AlikeMemories memory marks memory′ marks′ → Alike noBitCells (both memory marks) (both memory′ marks′)
   memories a =

@@ -29,12 +29,15 @@ returns c =
           (fetch-nowhere (now (args′ .map)) (args′ .pc) (pre′ .1) e0 o cs _ e _ refl),
     )
 
+cast-fetch : tie.Need-cast-fetch
+cast-fetch c = search needs
+
 fetch-requires : tie.Need-fetch-requires
 fetch-requires c κs =
-    let args′ = c .before .before .before .before .before .args in
-    let pre′ = c .before .before .before .before .before .pre in
-    let locate′ = c .before .before .locate in
-    half-fits (now (args′ .map)) (args′ .pc) (pre′ .1) (at-place (locate′ .result) (locate′ .ensures .0) (c .if1 .left)) (pre′ .0) refl
+    let args′ = c .before .before .before .before .before .before .args in
+    let pre′ = c .before .before .before .before .before .before .pre in
+    let locate′ = c .before .before .before .locate in
+    half-fits (now (args′ .map)) (args′ .pc) (pre′ .1) (at-place (locate′ .result) (locate′ .ensures .0) (c .before .if1 .left)) (pre′ .0) refl
 
 unfetched-requires-2 : tie.Need-unfetched-requires-2
 unfetched-requires-2 c κs = search needs
@@ -42,10 +45,10 @@ unfetched-requires-2 c κs = search needs
 returns-2 : tie.Need-returns-2
 unfolding instruction
 returns-2 c =
-    let args′ = c .before .before .before .before .before .before .before .before .args in
-    let pre′ = c .before .before .before .before .before .before .before .before .pre in
-    let locate′ = c .before .before .before .before .before .locate in
-    let if1′ = c .before .before .before .if1 in
+    let args′ = c .before .before .before .before .before .before .before .before .before .args in
+    let pre′ = c .before .before .before .before .before .before .before .before .before .pre in
+    let locate′ = c .before .before .before .before .before .before .locate in
+    let if1′ = c .before .before .before .before .if1 in
     let fetch′ = c .before .before .fetch in
     let e0 = at-place (locate′ .result) (locate′ .ensures .0) (if1′ .left) in (
       undecoded (c .unfetched2 .ensures .2),
@@ -55,19 +58,19 @@ returns-2 c =
 
 complete-requires : tie.Need-complete-requires
 complete-requires c κs =
-    let args′ = c .before .before .before .before .before .before .before .args in
-    let pre′ = c .before .before .before .before .before .before .before .pre in
-    let shared-slice-known′ = c .before .before .before .before .before .before .shared-slice-known in
-    let locate′ = c .before .before .before .before .locate in
+    let args′ = c .before .before .before .before .before .before .before .before .args in
+    let pre′ = c .before .before .before .before .before .before .before .before .pre in
+    let shared-slice-known′ = c .before .before .before .before .before .before .before .shared-slice-known in
+    let locate′ = c .before .before .before .before .before .locate in
     let small = half-small (now (args′ .mem)) (now (args′ .marks)) (locate′ .result .at) (λ i. omega (arith, shared-slice-known′ .given i)) (c .before .fetch .ensures) in
     (small, pre′ .0, pre′ .1, locate′ .ensures .1)
 
 returns-3 : tie.Need-returns-3
 returns-3 c =
-    let args′ = c .before .before .before .before .before .before .before .before .args in
-    let pre′ = c .before .before .before .before .before .before .before .before .pre in
-    let locate′ = c .before .before .before .before .before .locate in
-    let if1′ = c .before .before .before .if1 in
+    let args′ = c .before .before .before .before .before .before .before .before .before .args in
+    let pre′ = c .before .before .before .before .before .before .before .before .before .pre in
+    let locate′ = c .before .before .before .before .before .before .locate in
+    let if1′ = c .before .before .before .before .if1 in
     let fetch′ = c .before .before .fetch in
     let e0 = at-place (locate′ .result) (locate′ .ensures .0) (if1′ .left) in (
       c .complete .ensures .0,
@@ -81,6 +84,7 @@ fetch-spec =
     locate-requires
     unfetched-requires
     returns
+    cast-fetch
     fetch-requires
     unfetched-requires-2
     returns-2
