@@ -52,43 +52,24 @@ pub fn decode(first: u16, second: u16) -> Decoded
     }
 }
 
-// A short form, with its fields: opcodes up to 101111. Each has an arm of its own, here or in `operation`, so that the compiler makes one
-// table of them and goes from an opcode to its work by one jump.
+// A short form, with its fields: opcodes up to 101111.
 pub fn short(h: u32, reg2: u32, opcode: u32, reg1: u32) -> Decoded
     requires { ⌜ (h < 65536) × (reg2 ≡ reg2Of h) × (opcode ≡ opcodeOf h) × (reg1 ≡ reg1Of h) × (opcode ≤ 0b101111) ⌝ }
     ensures { λ r. ⌜ ((w : ℕ) → r ≡ decode h w) ⌝ }
 {
     match opcode {
-        0b011000 => sld_byte(h),
-        0b011001 => sld_byte(h),
-        0b011010 => sld_byte(h),
-        0b011011 => sld_byte(h),
-        0b011100 => sst_byte(h),
-        0b011101 => sst_byte(h),
-        0b011110 => sst_byte(h),
-        0b011111 => sst_byte(h),
-        0b100000 => sld_half(h),
-        0b100001 => sld_half(h),
-        0b100010 => sld_half(h),
-        0b100011 => sld_half(h),
-        0b100100 => sst_half(h),
-        0b100101 => sst_half(h),
-        0b100110 => sst_half(h),
-        0b100111 => sst_half(h),
-        0b101000 => word(h),
-        0b101001 => word(h),
-        0b101010 => word(h),
-        0b101011 => word(h),
-        0b101100 => bcond(h),
-        0b101101 => bcond(h),
-        0b101110 => bcond(h),
-        0b101111 => bcond(h),
-        _ => operation(reg2, opcode, reg1),
+        0b000000..=0b010111 => operation(reg2, opcode, reg1),
+        0b011000..=0b011011 => sld_byte(h),
+        0b011100..=0b011111 => sst_byte(h),
+        0b100000..=0b100011 => sld_half(h),
+        0b100100..=0b100111 => sst_half(h),
+        0b101000..=0b101011 => word(h),
+        _ => bcond(h),
     }
 }
 
 // 000000-010111: register and register, JMP, and 5-bit immediates.
-fn operation(reg2: u32, opcode: u32, reg1: u32) -> Decoded
+pub fn operation(reg2: u32, opcode: u32, reg1: u32) -> Decoded
     requires { ⌜ (reg2 < 32) × (opcode ≤ 0b010111) × (reg1 < 32) ⌝ }
     ensures { λ r. ⌜ ((w : ℕ) → r ≡ decodeFields reg2 opcode reg1 w) ⌝ }
 {

@@ -16,7 +16,7 @@ use Rattle.machine.specs.declared.Open.{Open}
 use Rattle.machine.specs.declared.Spot.{Spot}
 use Rattle.machine.specs.declared.Spot.the-variants.{At, Nowhere}
 use Rattle.machine.specs.declared.Answer.{Answer}
-use Rattle.machine.specs.declared.Answer.the-variants.{NoFetch, Leak}
+use Rattle.machine.specs.declared.Answer.the-variants.{Done, NoFetch, Leak}
 use Rattle.machine.specs.Marked.{liftAll, Cells, both}
 use Rattle.machine.specs.Regions.{FETCH, find}
 use Rattle.machine.specs.Memory.{bytesAt, littleEndian}
@@ -26,6 +26,7 @@ use Rattle.state.specs.declared.Place.{Place}
 use Rattle.state.specs.Windows.{spotOf}
 use Rattle.step.specs.declared.Fetched.{Fetched}
 use Rattle.step.specs.Tasks.{Prepared, goesOn, DecodedFields, fetched}
+use Rattle.step.specs.TaskLaws.{decoded-fields}
 use Rattle.step.specs.StepLaws.{opened, leaked, placed, nowhere, fits}
 
 cleared : (a b : ℕ) → a % 2 ≡ 0 → b ≡ a → a ≡ b / 2 * 2
@@ -90,14 +91,22 @@ module _ (map : List ℕ) (a : ℕ) (even : a % 2 ≡ 0) {s : Spot} (e : s ≡ f
   instruction-found o c m at-a at-p read open-half q = fetch-found o c m at-a _ at-p read open-half q
 
 -- what a halfword h with these fields asks for: a second one, or none
-module _ (h : ℕ) {reg2 opcode reg1 : ℕ} (r2 : reg2 ≡ reg2Of h) (code : opcode ≡ opcodeOf h) (r1 : reg1 ≡ reg1Of h)
-    (map : List ℕ) (o : Open) (c m : Cells) {x : Outcome} where
-  pub completed-long : {a k : ℕ} → o .pc ≡ a → opcode ≡ k → 0b110000 ≤ k
-      → x ≡ fetch (sum24 a 2) map o c m (λ w. execute (decodeFields reg2 k reg1 w) map o c m) → x ≡ completed h map o c m
+module _ (h : ℕ) {reg2 opcode reg1 : ℕ} (r2 : reg2 ≡ reg2Of h) (code : opcode ≡ opcodeOf h) (r1 : reg1 ≡ reg1Of h) (map : List ℕ) (m : Cells)
+    (f : Fetched) where
+  pub completed-long : {a k : ℕ} → opcode ≡ k → 0b110000 ≤ k
+      → DecodedFields (f .decoded) × ((o : Open) (c : Cells) → o .pc ≡ a
+      → fetched f map o c m ≡ fetch (sum24 a 2) map o c m (λ w. execute (decodeFields reg2 k reg1 w) map o c m))
+      → DecodedFields (f .decoded) × ((o : Open) (c : Cells) → o .pc ≡ a → fetched f map o c m ≡ completed h map o c m)
   unfolding decode
-  completed-long at-a e t q =
-      rw (le-leb 0b110000 (opcodeOf h) (omega arith))
-      ((rw (r2, r1, sym e ∙ code) at q) ∙ ap (λ (y : ℕ). fetch (sum24 y 2) map o c m (λ w. execute (decode h w) map o c m)) (sym at-a))
+  completed-long e t q = (
+    q .0,
+    λ o c at-a. rw (le-leb 0b110000 (opcodeOf h) (omega arith))
+        ((rw (r2, r1, sym e ∙ code) at (q .1 o c at-a)) ∙ ap (λ (y : ℕ). fetch (sum24 y 2) map o c m (λ w. execute (decode h w) map o c m)) (sym at-a)),
+  )
 
-  pub completed-short : opcode < 0b110000 → x ≡ execute (decode h 0) map o c m → x ≡ completed h map o c m
-  completed-short t q = rw (lt-leb 0b110000 (opcodeOf h) (omega arith)) q
+  pub completed-short : {a : ℕ} {d : Decoded} → h < 2 ^ 16 → opcode < 0b110000 → d ≡ decode h 0 → f ≡ record { answer = Done; place = 0; decoded = d }
+      → DecodedFields (f .decoded) × ((o : Open) (c : Cells) → o .pc ≡ a → fetched f map o c m ≡ completed h map o c m)
+  completed-short b t e q = (
+    rw (q, e) (decoded-fields h 0 b (omega arith)),
+    λ o c at-a. rw (lt-leb 0b110000 (opcodeOf h) (omega arith), q, e),
+  )

@@ -5,7 +5,7 @@ ghost use mathlib.Core.List.{List};
 ghost use Prim.Native.Nat.{ℕ, _%_, _≤_, _<_};
 ghost use Rattle.machine.specs.Marked.{Cells, both};
 ghost use Rattle.word.specs.Extend.{sum24};
-ghost use Rattle.insn.specs.Coding.{decodeFields};
+ghost use Rattle.insn.specs.Coding.{reg2Of, opcodeOf, reg1Of, decodeFields, decode};
 ghost use Rattle.machine.specs.Regions.{FETCH};
 ghost use Rattle.state.specs.Windows.{Onward};
 ghost use Rattle.machine.specs.Step.{after, completed, execute, fetch, instruction, step};
@@ -178,6 +178,17 @@ fn unfetched(answer: Answer, place: u32) -> Fetched
     }
 }
 
+// A fetch that is done.
+fn decoded(d: Decoded) -> Fetched
+    ensures { λ r. ⌜ r ≡ record { answer = Answer.Done; place = 0; decoded = d } ⌝ }
+{
+    Fetched {
+        answer: Answer::Done,
+        place: 0,
+        decoded: d,
+    }
+}
+
 // The halfword at PC, and what follows from it.
 fn fetch(map: &[u32; 16], sizes: &[u32; 12], pc: u32, mem: &[u8], marks: &[u8]) -> Fetched
     requires { ⌜ Prepared (now map) (now sizes) (now mem) (now marks) × (pc % 2 ≡ 0) ⌝ }
@@ -194,8 +205,8 @@ fn fetch(map: &[u32; 16], sizes: &[u32; 12], pc: u32, mem: &[u8], marks: &[u8]) 
     complete(h.val, map, sizes, pc, p, mem, marks)
 }
 
-// A second halfword is fetched only if the first, h, which lies at p, asks for it. An opcode that does has an arm of its own, and so have
-// the others in `decode::short`: the compiler makes one table of all opcodes, and what follows knows its own.
+// A second halfword is fetched only if the first, h, which lies at p, asks for it. Each opcode has an arm of its own, here or in
+// `decode::operation`: so the compiler makes one table of them all, and what an arm calls knows its opcode.
 fn complete(
     h: u32,
     map: &[u32; 16],
@@ -212,6 +223,30 @@ fn complete(
     let opcode = decode::opcode_of(h);
     let reg1 = decode::reg1_of(h);
     match opcode {
+        0b011000 => alone(h, reg2, 0b011000, reg1),
+        0b011001 => alone(h, reg2, 0b011001, reg1),
+        0b011010 => alone(h, reg2, 0b011010, reg1),
+        0b011011 => alone(h, reg2, 0b011011, reg1),
+        0b011100 => alone(h, reg2, 0b011100, reg1),
+        0b011101 => alone(h, reg2, 0b011101, reg1),
+        0b011110 => alone(h, reg2, 0b011110, reg1),
+        0b011111 => alone(h, reg2, 0b011111, reg1),
+        0b100000 => alone(h, reg2, 0b100000, reg1),
+        0b100001 => alone(h, reg2, 0b100001, reg1),
+        0b100010 => alone(h, reg2, 0b100010, reg1),
+        0b100011 => alone(h, reg2, 0b100011, reg1),
+        0b100100 => alone(h, reg2, 0b100100, reg1),
+        0b100101 => alone(h, reg2, 0b100101, reg1),
+        0b100110 => alone(h, reg2, 0b100110, reg1),
+        0b100111 => alone(h, reg2, 0b100111, reg1),
+        0b101000 => alone(h, reg2, 0b101000, reg1),
+        0b101001 => alone(h, reg2, 0b101001, reg1),
+        0b101010 => alone(h, reg2, 0b101010, reg1),
+        0b101011 => alone(h, reg2, 0b101011, reg1),
+        0b101100 => alone(h, reg2, 0b101100, reg1),
+        0b101101 => alone(h, reg2, 0b101101, reg1),
+        0b101110 => alone(h, reg2, 0b101110, reg1),
+        0b101111 => alone(h, reg2, 0b101111, reg1),
         0b110000 => fetch_second(reg2, 0b110000, reg1, map, sizes, pc, p, mem, marks),
         0b110001 => fetch_second(reg2, 0b110001, reg1, map, sizes, pc, p, mem, marks),
         0b110010 => fetch_second(reg2, 0b110010, reg1, map, sizes, pc, p, mem, marks),
@@ -228,12 +263,16 @@ fn complete(
         0b111101 => fetch_second(reg2, 0b111101, reg1, map, sizes, pc, p, mem, marks),
         0b111110 => fetch_second(reg2, 0b111110, reg1, map, sizes, pc, p, mem, marks),
         0b111111 => fetch_second(reg2, 0b111111, reg1, map, sizes, pc, p, mem, marks),
-        _ => Fetched {
-            answer: Answer::Done,
-            place: 0,
-            decoded: decode::short(h, reg2, opcode, reg1),
-        },
+        _ => decoded(decode::operation(reg2, opcode, reg1)),
     }
+}
+
+// A short form, with its fields.
+fn alone(h: u32, reg2: u32, opcode: u32, reg1: u32) -> Fetched
+    requires { ⌜ (h < 65536) × (reg2 ≡ reg2Of h) × (opcode ≡ opcodeOf h) × (reg1 ≡ reg1Of h) × (opcode ≤ 0b101111) ⌝ }
+    ensures { λ r. ⌜ r ≡ record { answer = Answer.Done; place = 0; decoded = decode h 0 } ⌝ }
+{
+    decoded(decode::short(h, reg2, opcode, reg1))
 }
 
 // The second halfword, behind a first one that lies at p and has these fields.
@@ -257,11 +296,7 @@ fn fetch_second(
             if h.mark {
                 return unfetched(Answer::Leak, pc);
             }
-            Fetched {
-                answer: Answer::Done,
-                place: 0,
-                decoded: decode::long(reg2, opcode, reg1, h.val),
-            }
+            decoded(decode::long(reg2, opcode, reg1, h.val))
         }
         Spot::Nowhere => unfetched(Answer::NoFetch, extend::sum24(pc, 2)),
     }

@@ -58,17 +58,21 @@ sum24-requires c κs = search needs
 unfetched-requires-2 : tie.Need-unfetched-requires-2
 unfetched-requires-2 c κs = search needs
 
+decoded-requires : tie.Need-decoded-requires
+decoded-requires c κs = search needs
+
 returns-2 : tie.Need-returns-2
 returns-2 c =
-    let args′ = c .before .before .before .before .before .before .before .before .before .args in
-    let pre′ = c .before .before .before .before .before .before .before .before .before .pre in
-    let shared-slice-known′ = c .before .before .before .before .before .before .before .before .shared-slice-known in
-    let second′ = c .before .before .before .before .before .before .second in
-    let q′ = c .before .before .before .before .q in
-    let fetch′ = c .before .before .fetch in
+    let args′ = c .before .before .before .before .before .before .before .before .before .before .args in
+    let pre′ = c .before .before .before .before .before .before .before .before .before .before .pre in
+    let shared-slice-known′ = c .before .before .before .before .before .before .before .before .before .shared-slice-known in
+    let second′ = c .before .before .before .before .before .before .before .second in
+    let q′ = c .before .before .before .before .before .q in
+    let fetch′ = c .before .before .before .fetch in
     let small = half-small (now (args′ .mem)) (now (args′ .marks)) (q′ .given .0 .0) (λ i. omega (arith, shared-slice-known′ .given i)) (fetch′ .ensures) in (
-      rw (c .long .ensures) (fields-decoded _ _ _ _ (pre′ .0) (pre′ .2) (pre′ .3) small),
-      λ o cs e. fetch-found (now (args′ .map)) (sum24 (args′ .pc) 2) (next-even (args′ .pc) (pre′ .5)) (second′ .ensures) o cs _ refl _ (q′ .given .1) (fetch′ .ensures) (c .before .if1 .left) (rw (c .long .ensures)),
+      rw (c .decoded .ensures, c .before .long .ensures) (fields-decoded _ _ _ _ (pre′ .0) (pre′ .2) (pre′ .3) small),
+      λ o cs e. fetch-found (now (args′ .map)) (sum24 (args′ .pc) 2) (next-even (args′ .pc) (pre′ .5)) (second′ .ensures) o cs _ refl _ (q′ .given .1) (fetch′ .ensures) (c .before .before .if1 .left)
+          (rw (c .decoded .ensures, c .before .long .ensures)),
     )
 
 returns-3 : tie.Need-returns-3
@@ -92,6 +96,7 @@ fetch-second-spec =
     unfetched-requires
     returns
     long-requires
+    decoded-requires
     enum-told
     sum24-requires
     unfetched-requires-2
