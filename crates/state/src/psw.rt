@@ -14,6 +14,36 @@ use word::flags;
 
 const FLAGS: usize = 37;
 
+// The flags by their bits, and sums of them.
+const Z: u32 = 1;
+
+const S: u32 = 2;
+
+const OV: u32 = 4;
+
+const CY: u32 = 8;
+
+const SAT: u32 = 16;
+
+const OV_SAT: u32 = 20;
+
+// The same of marks.
+const Z_MARK: u8 = 1;
+
+const S_MARK: u8 = 2;
+
+const Z_S_MARKS: u8 = 3;
+
+const Z_S_OV_MARKS: u8 = 7;
+
+const CY_MARK: u8 = 8;
+
+const Z_S_CY_MARKS: u8 = 11;
+
+const Z_S_OV_CY_MARKS: u8 = 15;
+
+const SAT_MARK: u8 = 16;
+
 // A bit of a sum of flags, and of a sum of marks.
 fn on(b: bool, bit: u32) -> u32
     ensures { λ r. ⌜ (r ≡ cond b bit 0) × (r ≤ bit) ⌝ }
@@ -48,58 +78,90 @@ fn put_marks(mark: bool, m: u8, tags: &mut [u8; 38])
 pub fn logic_flags(a: Computed, mark: bool, cells: &mut [u32; 38], tags: &mut [u8; 38])
     ensures { λ _. ⌜ both (now (cells .exit)) (now (tags .exit)) ≡ setFlags Kind.Logic a mark (both (now (cells .entry)) (now (tags .entry))) ⌝ }
 {
-    cells[FLAGS] = on(a.z, 1) + on(a.s, 2) + cells[FLAGS] / 8 % 4 * 8;
-    put_marks(mark, marks(mark, 3) + tags[FLAGS] / 8 % 4 * 8, tags);
+    cells[FLAGS] = on(a.z, Z) + on(a.s, S) + cells[FLAGS] / CY % 4 * CY;
+    put_marks(
+        mark,
+        marks(mark, Z_S_MARKS) + tags[FLAGS] / CY_MARK % 4 * CY_MARK,
+        tags,
+    );
 }
 
 // S and OV become 0; CY and SAT stay.
 pub fn mask_flags(a: Computed, mark: bool, cells: &mut [u32; 38], tags: &mut [u8; 38])
     ensures { λ _. ⌜ both (now (cells .exit)) (now (tags .exit)) ≡ setFlags Kind.Mask a mark (both (now (cells .entry)) (now (tags .entry))) ⌝ }
 {
-    cells[FLAGS] = on(a.z, 1) + cells[FLAGS] / 8 % 4 * 8;
-    put_marks(mark, marks(mark, 1) + tags[FLAGS] / 8 % 4 * 8, tags);
+    cells[FLAGS] = on(a.z, Z) + cells[FLAGS] / CY % 4 * CY;
+    put_marks(
+        mark,
+        marks(mark, Z_MARK) + tags[FLAGS] / CY_MARK % 4 * CY_MARK,
+        tags,
+    );
 }
 
 // OV becomes 0; SAT stays.
 pub fn shift_flags(a: Computed, mark: bool, cells: &mut [u32; 38], tags: &mut [u8; 38])
     ensures { λ _. ⌜ both (now (cells .exit)) (now (tags .exit)) ≡ setFlags Kind.Shift a mark (both (now (cells .entry)) (now (tags .entry))) ⌝ }
 {
-    cells[FLAGS] = on(a.z, 1) + on(a.s, 2) + on(a.cy, 8) + cells[FLAGS] / 16 % 2 * 16;
-    put_marks(mark, marks(mark, 11) + tags[FLAGS] / 16 % 2 * 16, tags);
+    cells[FLAGS] = on(a.z, Z) + on(a.s, S) + on(a.cy, CY) + cells[FLAGS] / SAT % 2 * SAT;
+    put_marks(
+        mark,
+        marks(mark, Z_S_CY_MARKS) + tags[FLAGS] / SAT_MARK % 2 * SAT_MARK,
+        tags,
+    );
 }
 
 // CY and SAT stay.
 pub fn divide_flags(a: Computed, mark: bool, cells: &mut [u32; 38], tags: &mut [u8; 38])
     ensures { λ _. ⌜ both (now (cells .exit)) (now (tags .exit)) ≡ setFlags Kind.Divide a mark (both (now (cells .entry)) (now (tags .entry))) ⌝ }
 {
-    cells[FLAGS] = on(a.z, 1) + on(a.s, 2) + on(a.ov, 4) + cells[FLAGS] / 8 % 4 * 8;
-    put_marks(mark, marks(mark, 7) + tags[FLAGS] / 8 % 4 * 8, tags);
+    cells[FLAGS] = on(a.z, Z) + on(a.s, S) + on(a.ov, OV) + cells[FLAGS] / CY % 4 * CY;
+    put_marks(
+        mark,
+        marks(mark, Z_S_OV_MARKS) + tags[FLAGS] / CY_MARK % 4 * CY_MARK,
+        tags,
+    );
 }
 
 // SAT stays.
 pub fn arith_flags(a: Computed, mark: bool, cells: &mut [u32; 38], tags: &mut [u8; 38])
     ensures { λ _. ⌜ both (now (cells .exit)) (now (tags .exit)) ≡ setFlags Kind.Arith a mark (both (now (cells .entry)) (now (tags .entry))) ⌝ }
 {
-    cells[FLAGS] = on(a.z, 1) + on(a.s, 2) + on(a.ov, 4) + on(a.cy, 8) + cells[FLAGS] / 16 % 2 * 16;
-    put_marks(mark, marks(mark, 15) + tags[FLAGS] / 16 % 2 * 16, tags);
+    cells[FLAGS] = on(a.z, Z)
+        + on(a.s, S)
+        + on(a.ov, OV)
+        + on(a.cy, CY)
+        + cells[FLAGS] / SAT % 2 * SAT;
+    put_marks(
+        mark,
+        marks(mark, Z_S_OV_CY_MARKS) + tags[FLAGS] / SAT_MARK % 2 * SAT_MARK,
+        tags,
+    );
 }
 
 // SAT is raised by OV, and its mark is added to. OV and a raised SAT are written together.
 pub fn saturate_flags(a: Computed, mark: bool, cells: &mut [u32; 38], tags: &mut [u8; 38])
     ensures { λ _. ⌜ both (now (cells .exit)) (now (tags .exit)) ≡ setFlags Kind.Saturate a mark (both (now (cells .entry)) (now (tags .entry))) ⌝ }
 {
-    let sat = (cells[FLAGS] / 16 % 2 * 16) | on(a.ov, 20);
-    let sat_mark = (tags[FLAGS] / 16 % 2 == 1) | mark;
-    cells[FLAGS] = on(a.z, 1) + on(a.s, 2) + on(a.cy, 8) + sat;
-    put_marks(mark, marks(mark, 15) + marks(sat_mark, 16), tags);
+    let sat = (cells[FLAGS] / SAT % 2 * SAT) | on(a.ov, OV_SAT);
+    let sat_mark = (tags[FLAGS] / SAT_MARK % 2 == 1) | mark;
+    cells[FLAGS] = on(a.z, Z) + on(a.s, S) + on(a.cy, CY) + sat;
+    put_marks(
+        mark,
+        marks(mark, Z_S_OV_CY_MARKS) + marks(sat_mark, SAT_MARK),
+        tags,
+    );
 }
 
 // Z alone.
 pub fn set_z(z: bool, mark: bool, cells: &mut [u32; 38], tags: &mut [u8; 38])
     ensures { λ _. ⌜ both (now (cells .exit)) (now (tags .exit)) ≡ setZ z mark (both (now (cells .entry)) (now (tags .entry))) ⌝ }
 {
-    cells[FLAGS] = on(z, 1) + cells[FLAGS] / 2 % 16 * 2;
-    put_marks(mark, marks(mark, 1) + tags[FLAGS] / 2 % 16 * 2, tags);
+    cells[FLAGS] = on(z, Z) + cells[FLAGS] / S % 16 * S;
+    put_marks(
+        mark,
+        marks(mark, Z_MARK) + tags[FLAGS] / S_MARK % 16 * S_MARK,
+        tags,
+    );
 }
 
 // Condition k as a value, marked if it reads a marked flag.

@@ -31,7 +31,7 @@ pub fn pc(c: Packed) -> u32
     (c.pc % 4294967296) as u32
 }
 
-// The step went on, and changed PC alone.
+// The step went on, and of what is never marked changed PC alone.
 pub fn goto(pc: u32, c: Packed) -> Out
     ensures { λ r. ⌜ wentOf c r ≡ Went.Next (goto pc (openOf c)) ⌝ }
 {

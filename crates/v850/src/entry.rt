@@ -9,6 +9,13 @@ use state::map_check;
 use state::regions;
 use step::run;
 
+// The lengths of block and report, and the largest memory.
+const BYTES: usize = 236;
+
+const REPORT: usize = 8;
+
+const MEMORY: usize = 65536;
+
 // The answers by number.
 const DONE: u32 = 0;
 
@@ -18,6 +25,18 @@ const MAP: u32 = 2;
 
 const STATE: u32 = 3;
 
+const ASLEEP: u32 = 4;
+
+const NO_FETCH: u32 = 5;
+
+const UNDEFINED: u32 = 6;
+
+const LEAK: u32 = 7;
+
+const NO_READ: u32 = 8;
+
+const NO_WRITE: u32 = 9;
+
 fn number(a: Answer) -> u32
     ensures { λ r. ⌜ r ≡ number a ⌝ }
 {
@@ -26,12 +45,12 @@ fn number(a: Answer) -> u32
         Answer::Size => SIZE,
         Answer::Map => MAP,
         Answer::State => STATE,
-        Answer::Asleep => 4,
-        Answer::NoFetch => 5,
-        Answer::Undefined => 6,
-        Answer::Leak => 7,
-        Answer::NoRead => 8,
-        Answer::NoWrite => 9,
+        Answer::Asleep => ASLEEP,
+        Answer::NoFetch => NO_FETCH,
+        Answer::Undefined => UNDEFINED,
+        Answer::Leak => LEAK,
+        Answer::NoRead => NO_READ,
+        Answer::NoWrite => NO_WRITE,
     }
 }
 
@@ -47,13 +66,13 @@ pub extern "C" fn v850_run(
 ) -> u32
     ensures { λ r. ⌜ record { answer = r; block = now (block .exit); memory = now (memory .exit); marks = now (marks .exit); report = now (report .exit) } ≡ called (now (block .entry)) (now (memory .entry)) (now (marks .entry)) (now (report .entry)) budget ⌝ }
 {
-    if block.len() != 236 {
+    if block.len() != BYTES {
         return SIZE;
     }
-    if report.len() != 8 {
+    if report.len() != REPORT {
         return SIZE;
     }
-    if memory.len() > 65536 {
+    if memory.len() > MEMORY {
         return SIZE;
     }
     if marks.len() != memory.len() {
@@ -85,7 +104,7 @@ pub extern "C" fn v850_run(
 pub extern "C" fn v850_reset(block: &mut [u8]) -> u32
     ensures { λ r. ⌜ record { answer = r; block = now (block .exit) } ≡ reset (now (block .entry)) ⌝ }
 {
-    if block.len() != 236 {
+    if block.len() != BYTES {
         return SIZE;
     }
     let old = block::words(block);
@@ -102,10 +121,10 @@ pub fn region<'a>(block: &[u8], memory: &'a mut [u8], k: u32) -> &'a mut [u8]
     if k > 3 {
         return &mut memory[0..0];
     }
-    if block.len() != 236 {
+    if block.len() != BYTES {
         return &mut memory[0..0];
     }
-    if memory.len() > 65536 {
+    if memory.len() > MEMORY {
         return &mut memory[0..0];
     }
     let ws = block::words(block);
