@@ -3,6 +3,7 @@
 pub mod control;
 pub mod core;
 pub mod exec;
+pub mod fetch;
 pub mod parts;
 pub mod run;
 pub mod tasks;

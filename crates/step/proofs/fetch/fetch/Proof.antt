@@ -6,8 +6,8 @@ use Rattle.machine.specs.Step.{instruction}
 use Rattle.step.specs.StepLaws.{finds}
 use Rattle.step.specs.FetchLaws.{at-place, no-place, undecoded, not-fetched, half-small, half-fits, fetch-nowhere, fetch-secret, instruction-found}
 use borrow.Author.Needs.{needs}
-use Rattle.step.proofs.exec.fetch.Statement.{statement}
-use Rattle.step.proofs.exec.fetch.Tie as tie
+use Rattle.step.proofs.fetch.fetch.Statement.{statement}
+use Rattle.step.proofs.fetch.fetch.Tie as tie
 
 locate-requires : tie.Need-locate-requires
 locate-requires c κs =

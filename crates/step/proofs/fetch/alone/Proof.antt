@@ -1,8 +1,8 @@
 -- A short form does not look at the second halfword.
 use mathlib.Core.Path.{_∙_}
 use borrow.Author.Needs.{needs}
-use Rattle.step.proofs.exec.alone.Statement.{statement}
-use Rattle.step.proofs.exec.alone.Tie as tie
+use Rattle.step.proofs.fetch.alone.Statement.{statement}
+use Rattle.step.proofs.fetch.alone.Tie as tie
 
 short-requires : tie.Need-short-requires
 short-requires c κs = search needs

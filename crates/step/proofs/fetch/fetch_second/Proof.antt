@@ -7,8 +7,8 @@ use Rattle.step.specs.TaskLaws.{fields-decoded}
 use Rattle.step.specs.StepLaws.{finds}
 use Rattle.step.specs.FetchLaws.{undecoded, not-fetched, next-even, half-small, half-fits, fetch-nowhere, fetch-secret, fetch-found}
 use borrow.Author.Needs.{needs}
-use Rattle.step.proofs.exec.fetch_second.Statement.{statement}
-use Rattle.step.proofs.exec.fetch_second.Tie as tie
+use Rattle.step.proofs.fetch.fetch_second.Statement.{statement}
+use Rattle.step.proofs.fetch.fetch_second.Tie as tie
 
 second-requires : tie.Need-second-requires
 second-requires c κs =

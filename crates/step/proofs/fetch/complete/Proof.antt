@@ -5,8 +5,8 @@ use borrow.Author.Needs.{needs}
 use Rattle.insn.specs.Coding.{decode}
 use Rattle.insn.specs.Within.{under}
 use Rattle.step.specs.FetchLaws.{completed-long, completed-short}
-use Rattle.step.proofs.exec.complete.Statement.{statement}
-use Rattle.step.proofs.exec.complete.Tie as tie
+use Rattle.step.proofs.fetch.complete.Statement.{statement}
+use Rattle.step.proofs.fetch.complete.Tie as tie
 
 reg2-of-requires : tie.Need-reg2-of-requires
 reg2-of-requires c κs = search needs
