@@ -25,7 +25,7 @@ fn address(size: Size, base: u32, disp: u32) -> u32
     memory::aligned(size, extend::sum24(base, disp))
 }
 
-fn load_sized(
+pub fn load(
     size: Size,
     disp: u32,
     base: u32,
@@ -57,71 +57,7 @@ fn load_sized(
     }
 }
 
-// The compiler makes a copy of the work for each size, and so asks for the size once.
-pub fn load(
-    size: Size,
-    disp: u32,
-    base: u32,
-    target: u32,
-    len: u32,
-    map: &[u32; 16],
-    sizes: &[u32; 12],
-    o: Packed,
-    cells: &mut [u32; 38],
-    tags: &mut [u8; 38],
-    mem: &[u8],
-    marks: &[u8],
-) -> Out
-    requires { ⌜ Prepared (now map) (now sizes) (now mem) (now marks) × (base < 32) × (target < 32) ⌝ }
-    ensures { λ r. ⌜ after (wentOf o r) (both (now (cells .exit)) (now (tags .exit))) (both (now (mem .entry)) (now (marks .entry))) ≡ load size disp base target len (now (map .entry)) (openOf o) (both (now (cells .entry)) (now (tags .entry))) (both (now (mem .entry)) (now (marks .entry))) ⌝ }
-{
-    match size {
-        Size::Byte => load_sized(
-            Size::Byte,
-            disp,
-            base,
-            target,
-            len,
-            map,
-            sizes,
-            o,
-            cells,
-            tags,
-            mem,
-            marks,
-        ),
-        Size::Half => load_sized(
-            Size::Half,
-            disp,
-            base,
-            target,
-            len,
-            map,
-            sizes,
-            o,
-            cells,
-            tags,
-            mem,
-            marks,
-        ),
-        Size::Word => load_sized(
-            Size::Word,
-            disp,
-            base,
-            target,
-            len,
-            map,
-            sizes,
-            o,
-            cells,
-            tags,
-            mem,
-            marks,
-        ),
-    }
-}
-
-fn store_sized(
+pub fn store(
     size: Size,
     disp: u32,
     base: u32,
@@ -150,70 +86,6 @@ fn store_sized(
             core::plus(len, o)
         }
         Spot::Nowhere => core::refuse(Answer::NoWrite, a, o),
-    }
-}
-
-// By size, as `load`.
-pub fn store(
-    size: Size,
-    disp: u32,
-    base: u32,
-    source: u32,
-    len: u32,
-    map: &[u32; 16],
-    sizes: &[u32; 12],
-    o: Packed,
-    cells: &[u32; 38],
-    tags: &[u8; 38],
-    mem: &mut [u8],
-    marks: &mut [u8],
-) -> Out
-    requires { ⌜ Prepared (now map) (now sizes) (now mem) (now marks) × (base < 32) × (source < 32) ⌝ }
-    ensures { λ r. ⌜ after (wentOf o r) (both (now (cells .entry)) (now (tags .entry))) (both (now (mem .exit)) (now (marks .exit))) ≡ store size disp base source len (now (map .entry)) (openOf o) (both (now (cells .entry)) (now (tags .entry))) (both (now (mem .entry)) (now (marks .entry))) ⌝ }
-{
-    match size {
-        Size::Byte => store_sized(
-            Size::Byte,
-            disp,
-            base,
-            source,
-            len,
-            map,
-            sizes,
-            o,
-            cells,
-            tags,
-            mem,
-            marks,
-        ),
-        Size::Half => store_sized(
-            Size::Half,
-            disp,
-            base,
-            source,
-            len,
-            map,
-            sizes,
-            o,
-            cells,
-            tags,
-            mem,
-            marks,
-        ),
-        Size::Word => store_sized(
-            Size::Word,
-            disp,
-            base,
-            source,
-            len,
-            map,
-            sizes,
-            o,
-            cells,
-            tags,
-            mem,
-            marks,
-        ),
     }
 }
 
