@@ -292,10 +292,16 @@ unfoldable pub encode : Insn → Encoded
 encode i = cond (inRange i) (halfwords i) Field
 
 -- the order's number of the encoder's answer, and the halfwords that come with it
+abbrev pub DONE : ℕ
+DONE = 0
+
+abbrev pub FIELD : ℕ
+FIELD = 10
+
 abbrev pub number : Encoded → ℕ
-number (One h) = 0
-number (Two h w) = 0
-number Field = 10
+number (One h) = DONE
+number (Two h w) = DONE
+number Field = FIELD
 
 abbrev pub listed : Encoded → List ℕ
 listed (One h) = h ∷ []

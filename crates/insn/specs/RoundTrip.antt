@@ -11,7 +11,7 @@ use Rattle.insn.specs.declared.Decoded.{Decoded}
 use Rattle.insn.specs.declared.Decoded.the-variants.{Valid, Illegal, Undefined}
 use Rattle.insn.specs.declared.Encoded.{Encoded}
 use Rattle.insn.specs.declared.Encoded.the-variants.{One, Two, Field}
-use Rattle.insn.specs.Coding.{opcodeOf, long, decodeFields, decode, inRange, encode, number, listed}
+use Rattle.insn.specs.Coding.{opcodeOf, long, decodeFields, decode, inRange, halfwords, encode, DONE, FIELD, number, listed}
 use Rattle.insn.specs.CodingLaws.{facts, Spells, encode-spells, Encodes, EncodesTo, decode-encodes}
 
 spelled : (i : Insn) {e : Encoded} → encode i ≡ e → Spells e i
@@ -75,28 +75,31 @@ pub encode-refuses : (i : Insn) → (encode i ≡ Field) ↔ (inRange i ≡ fals
 unfolding encode
 encode-refuses i = (λ e. spelled i e, λ n. rw n)
 
--- The order's numbers: FIELD, with no halfwords, exactly if an operand is out of range, and DONE exactly if none is
+-- The order's numbers: DONE with the halfwords if every operand is in its range, and else FIELD with none
 pub encode-numbers : (i : Insn)
-    → ((number (encode i) ≡ number Field) ↔ (inRange i ≡ false)) × ((number (encode i) ≡ 0) ↔ (inRange i ≡ true)) × (inRange i ≡ false → listed (encode i) ≡ [])
-encode-numbers i =
-    ((λ n. refused (inRange i) refl n, out), (λ n. done (inRange i) refl n, within (encode i) refl), λ n. rw (encode-refuses i .1 n))
+    → (number (encode i) ≡ cond (inRange i) DONE FIELD) × (listed (encode i) ≡ cond (inRange i) (listed (halfwords i)) [])
+unfolding encode
+encode-numbers i = go (inRange i) refl
   where
-    out : inRange i ≡ false → number (encode i) ≡ number Field
-    out n = rw (encode-refuses i .1 n)
+    done : (e : Encoded) → encode i ≡ e → inRange i ≡ true → number e ≡ DONE
+    done (One h) q t = refl
+    done (Two h w) q t = refl
+    done Field q t = absurd (true≢false (sym t ∙ encode-refuses i .0 q))
 
-    within : (e : Encoded) → encode i ≡ e → inRange i ≡ true → number e ≡ 0
-    within (One h) q t = refl
-    within (Two h w) q t = refl
-    within Field q t = absurd (true≢false (sym t ∙ encode-refuses i .0 q))
-
-    refused : (t : Bool) → inRange i ≡ t → number (encode i) ≡ number Field → t ≡ false
-    refused true q n = absurd (omega (arith, n, within (encode i) refl q))
-    refused false q n = refl
-
-    done : (t : Bool) → inRange i ≡ t → number (encode i) ≡ 0 → t ≡ true
-    done true q n = refl
-    done false q n = absurd (omega (arith, n, out q))
+    go : (t : Bool) → inRange i ≡ t → (number (encode i) ≡ cond t DONE FIELD) × (listed (encode i) ≡ cond t (listed (halfwords i)) [])
+    go true q = (done (encode i) refl q, rw q)
+    go false q = (rw q, rw q)
 
 -- Two instructions that are not refused and have the same halfwords are one
 pub encode-injective : (i j : Insn) → encode i ≢ Field → encode i ≡ encode j → i ≡ j
 encode-injective i j n e = same-spelled i j (encode i) n (encode-spells i) (spelled j (sym e))
+
+-- Two outcomes that a contract allows are equal: of `decode`, `is_long` and `encode`
+pub decoded-one : (h w : ℕ) (x y : Decoded) → x ≡ decode h w → y ≡ decode h w → x ≡ y
+decoded-one h w x y p q = p ∙ sym q
+
+pub long-one : (h : ℕ) (x y : Bool) → x ≡ long h → y ≡ long h → x ≡ y
+long-one h x y p q = p ∙ sym q
+
+pub encoded-one : (i : Insn) (x y : Encoded) → x ≡ encode i → y ≡ encode i → x ≡ y
+encoded-one i x y p q = p ∙ sym q

@@ -1,10 +1,11 @@
 // From instructions to halfwords.
 ghost use mathlib.Core.Path.{_≡_};
 ghost use mathlib.Core.Bool.{true, cond, _&&_, _||_};
+ghost use mathlib.Core.List.{[]};
 ghost use Prim.Native.Nat.{_-_, _%_, _<_};
 ghost use lib.Dec.{ltb, leb};
 ghost use Rattle.word.specs.Word.{W};
-ghost use Rattle.insn.specs.Coding.{half, regCode, bitCode, short, twoOf, isReg, isUnsigned, multiple, encode};
+ghost use Rattle.insn.specs.Coding.{half, regCode, bitCode, short, twoOf, isReg, isUnsigned, multiple, inRange, halfwords, encode, DONE, FIELD, number, listed};
 use crate::BitOp;
 use crate::Encoded;
 use crate::Imm5Op;
@@ -15,9 +16,9 @@ use crate::ShiftOp;
 use crate::Size;
 use crate::decode;
 
-// The halfwords of an instruction, or FIELD exactly if an operand is out of its range.
+// The halfwords of an instruction, or FIELD exactly if an operand is out of its range; the order's numbers say it again.
 pub fn encode(i: Insn) -> Encoded
-    ensures { λ r. ⌜ r ≡ encode i ⌝ }
+    ensures { λ r. ⌜ (r ≡ encode i) × (number r ≡ cond (inRange i) DONE FIELD) × (listed r ≡ cond (inRange i) (listed (halfwords i)) []) ⌝ }
 {
     match i {
         Insn::Reg { op, reg1, reg2 } => reg(op, reg1, reg2),

@@ -191,18 +191,19 @@ module _ (map : List ℕ) {o : Open} {c m : Cells} (s : State o c m) where
       (cond-holds IsWord (eqb regid FEPSW) (omega arith)
       (cond-holds IsWord (eqb regid ECR) (s .formed .core .ecr) (omega arith)))))
 
-  exception-formed : (code target : ℕ) → code < 2 ^ 16 → target % 2 ≡ 0 → target < 2 ^ 24 → Formed (exception code target o c m)
+  exception-formed : (code target np : ℕ) → code < 2 ^ 16 → target % 2 ≡ 0 → target < 2 ^ 24 → np < 2 → Formed (exception code target np o c m)
   unfolding exception
-  exception-formed code target h e l =
-      on (goto-good (eicc-good (modes-good (s .formed .core) (o .np) 1 1 (s .formed .core .np) (omega arith) (omega arith)) code h) target e l)
+  exception-formed code target np h e l b =
+      on (goto-good (eicc-good (modes-good (s .formed .core) np 1 1 b (omega arith) (omega arith)) code h) target e l)
       (saved-good ei (s .formed .cells) o (sum24 (o .pc) 4) (omega arith))
 
   trap-formed : (vector : ℕ) → vector < 32 → Formed (trap vector o c m)
   unfolding trap
   trap-formed vector h =
-      exception-formed (0x40 + vector) _ (omega arith)
+      exception-formed (0x40 + vector) _ (o .np) (omega arith)
       (cond-holds (λ (n : ℕ). n % 2 ≡ 0) (ltb vector 0x10) {x = 0x40} {y = 0x50} refl refl)
       (cond-holds (λ (n : ℕ). n < 2 ^ 24) (ltb vector 0x10) {x = 0x40} {y = 0x50} (omega arith) (omega arith))
+      (s .formed .core .np)
 
   return-formed : {pc saved : ℕ} → Bank pc saved → Formed (return pc saved o c m)
   unfolding return
@@ -278,7 +279,7 @@ module _ (map : List ℕ) {o : Open} {c m : Cells} (s : State o c m) where
     where
       go : (d : Decoded) → decode h w ≡ d → Formed (execute d map o c m)
       go (decoded.Valid i) e = exec-formed i (subst T (sym (decode-in-range h w l k i e)) tt)
-      go decoded.Illegal e = exception-formed 0x60 0x60 (omega arith) refl (omega arith)
+      go decoded.Illegal e = exception-formed 0x60 0x60 (o .np) (omega arith) refl (omega arith) (s .formed .core .np)
       go decoded.Undefined e = refuse-ends _ _ refl
 
   step-formed : Formed (step map o c m)

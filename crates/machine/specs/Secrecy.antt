@@ -99,9 +99,9 @@ module _ (map : List ℕ) (o : Open) {c d m n : Cells} (h : TwinCells c d) (g : 
   unfolding system
   system-alike regid = search parts depth 9
 
-  exception-alike : (code target : ℕ) → TwinOutcomes (exception code target o c m) (exception code target o d n)
+  exception-alike : (code target np : ℕ) → TwinOutcomes (exception code target np o c m) (exception code target np o d n)
   unfolding exception
-  exception-alike code target = search parts
+  exception-alike code target np = search parts
 
   return-alike : (pc saved : ℕ) → bitCells (sys pc) ≡ false → bitCells (sys saved) ≡ true
       → TwinOutcomes (return pc saved o c m) (return pc saved o d n)

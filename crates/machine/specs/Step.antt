@@ -130,25 +130,27 @@ system regid o c =
     (cond (eqb regid ECR) (plain (o .ecr))
     (gathered (psw o c))))))
 
--- Exceptions, TRAP and the illegal code: the next PC, which is unmarked, and PSW are saved; EP 1, ID 1, and NP as it is
+-- Exceptions, TRAP and the illegal code: the next PC, which is unmarked, and PSW are saved; EP 1, ID 1
 abbrev pub savePsw : ℕ → Open → Cells → Cells
 savePsw n o c = putBits (sys n) (psw o c) c
 
 abbrev pub savePc : ℕ → ℕ → Cells → Cells
 savePc n p c = put (sys n) (plain p) c
 
-abbrev pub excepted : Open → Open
-excepted o = modes (o .np) 1 1 o
+unfoldable pub exception : ℕ → ℕ → ℕ → Open → Cells → Cells → Outcome
+exception code target np o c m =
+    next (goto target (eicc code (modes np 1 1 o))) (savePc EIPC (sum24 (o .pc) 4) (savePsw EIPSW o c)) m
 
-unfoldable pub exception : ℕ → ℕ → Open → Cells → Cells → Outcome
-exception code target o c m =
-    next (goto target (eicc code (excepted o))) (savePc EIPC (sum24 (o .pc) 4) (savePsw EIPSW o c)) m
-
+-- TRAP keeps NP
 unfoldable pub trap : ℕ → Open → Cells → Cells → Outcome
-trap vector o c m = exception (0x40 + vector) (cond (ltb vector 0x10) 0x40 0x50) o c m
+trap vector o c m = exception (0x40 + vector) (cond (ltb vector 0x10) 0x40 0x50) (o .np) o c m
+
+-- NP behind the illegal code: 01 sets EP and ID alone, so it stays. 000, 6.2.2 (4), sets NP too: 1 would be that reading
+abbrev pub illegalNp : Open → ℕ
+illegalNp o = o .np
 
 unfoldable pub illegal : Open → Cells → Cells → Outcome
-illegal o c m = exception 0x60 0x60 o c m
+illegal o c m = exception 0x60 0x60 (illegalNp o) o c m
 
 -- RETI takes PC and PSW back from the bank that EP and NP choose, and clears PC bit 0
 unfoldable pub return : ℕ → ℕ → Open → Cells → Cells → Outcome

@@ -192,12 +192,19 @@ fn save(value: u32, pc: u32, psw: u32, o: Open, cells: &mut [u32; 38], tags: &mu
     );
 }
 
-fn exception(code: u32, target: u32, o: Open, cells: &mut [u32; 38], tags: &mut [u8; 38]) -> Wide
+fn exception(
+    code: u32,
+    target: u32,
+    np: u32,
+    o: Open,
+    cells: &mut [u32; 38],
+    tags: &mut [u8; 38],
+) -> Wide
     requires { ⌜ code < 2 ^ 16 ⌝ }
-    ensures { λ r. ⌜ ((m : Cells) → after (wentWide r) (both (now (cells .exit)) (now (tags .exit))) m ≡ exception code target o (both (now (cells .entry)) (now (tags .entry))) m) ⌝ }
+    ensures { λ r. ⌜ ((m : Cells) → after (wentWide r) (both (now (cells .exit)) (now (tags .exit))) m ≡ exception code target np o (both (now (cells .entry)) (now (tags .entry))) m) ⌝ }
 {
     save(extend::sum24(o.pc, 4), EIPC, EIPSW, o, cells, tags);
-    parts::next(parts::goto(target, parts::eicc(code, parts::modes(o.np, 1, 1, o))))
+    parts::next(parts::goto(target, parts::eicc(code, parts::modes(np, 1, 1, o))))
 }
 
 pub fn trap(vector: u32, o: Open, cells: &mut [u32; 38], tags: &mut [u8; 38]) -> Wide
@@ -205,13 +212,13 @@ pub fn trap(vector: u32, o: Open, cells: &mut [u32; 38], tags: &mut [u8; 38]) ->
     ensures { λ r. ⌜ ((m : Cells) → after (wentWide r) (both (now (cells .exit)) (now (tags .exit))) m ≡ trap vector o (both (now (cells .entry)) (now (tags .entry))) m) ⌝ }
 {
     let target = if vector < 0x10 { 0x40 } else { 0x50 };
-    exception(0x40 + vector, target, o, cells, tags)
+    exception(0x40 + vector, target, o.np, o, cells, tags)
 }
 
 pub fn illegal(o: Open, cells: &mut [u32; 38], tags: &mut [u8; 38]) -> Wide
     ensures { λ r. ⌜ ((m : Cells) → after (wentWide r) (both (now (cells .exit)) (now (tags .exit))) m ≡ illegal o (both (now (cells .entry)) (now (tags .entry))) m) ⌝ }
 {
-    exception(0x60, 0x60, o, cells, tags)
+    exception(0x60, 0x60, o.np, o, cells, tags)
 }
 
 // Back to the saved PC and PSW in the registers pc and psw.
