@@ -89,9 +89,9 @@ module _ {o : Open} (f : Fits o) {c m : Cells} where
   on-fits : (p : ℕ) {o′ : Open} {c′ : Cells} → Fits o′ → Fitting c m (next (goto p o′) c′ m)
   on-fits p g = next-ends (goto-fits g p)
 
-  exception-fits : (code target : ℕ) → Fitting c m (exception code target o c m)
+  exception-fits : (code target np : ℕ) → np < 2 → Fitting c m (exception code target np o c m)
   unfolding exception
-  exception-fits code target = on-fits target (cause-fits (modes-fits f (o .np) 1 1 (f .np) (omega arith) (omega arith)) _)
+  exception-fits code target np h = on-fits target (cause-fits (modes-fits f np 1 1 h (omega arith) (omega arith)) _)
 
   return-fits : (pc saved : ℕ) → Fitting c m (return pc saved o c m)
   unfolding return
@@ -101,7 +101,7 @@ module _ {o : Open} (f : Fits o) {c m : Cells} where
 
   pub system-fits : (s : System) → Fitting c m (doSystem s o c m)
   unfolding doSystem trap reti
-  system-fits (Trap vector) = exception-fits _ _
+  system-fits (Trap vector) = exception-fits _ _ _ (f .np)
   system-fits Halt = on-fits _ (waits-fits f _ _ 1 (f .code) (f .nmi) (omega arith))
   system-fits Reti = cond-ends (eqb (o .ep) 0 && eqb (o .np) 1) (return-fits FEPC FEPSW) (return-fits EIPC EIPSW)
   system-fits Di = on-fits _ (modes-fits f _ _ 1 (f .np) (f .ep) (omega arith))
@@ -109,7 +109,7 @@ module _ {o : Open} (f : Fits o) {c m : Cells} where
 
   pub illegal-fits : Fitting c m (illegal o c m)
   unfolding illegal
-  illegal-fits = exception-fits 0x60 0x60
+  illegal-fits = exception-fits 0x60 0x60 _ (f .np)
 
   pub nmi-fits : Fitting c m (takeNmi o c m)
   unfolding takeNmi
