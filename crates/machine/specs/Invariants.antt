@@ -27,7 +27,7 @@ use Rattle.machine.specs.declared.Open.{Open}
 use Rattle.machine.specs.declared.Answer.{Answer}
 use Rattle.machine.specs.declared.Went.the-variants.{Next, Stop}
 use Rattle.machine.specs.Marked.{Cells, cell}
-use Rattle.machine.specs.Psw.{EIPC, EIPSW, FEPC, FEPSW, ECR, PSW, sys, reg, bits, bitsAt, condition, psw, mode}
+use Rattle.machine.specs.Psw.{EIPC, EIPSW, FEPC, FEPSW, ECR, PSW, sys, CELLS, reg, ELEMENT, bits, bitsAt, condition, psw, mode}
 use Rattle.machine.specs.Memory.{changed, tests}
 use Rattle.machine.specs.Step.{Outcome, next, plus, load, store, bitwise, jmp, jarl, bcond, ldsr, system, exception, trap, illegal, return, reti, exec, execute, fetch, instruction, nmiAccepted, codeAccepted, takeNmi, takeCode, step}
 use Rattle.machine.specs.Run.{number, run, resetOpen, resetCells}
@@ -66,8 +66,8 @@ module _ (map : List ℕ) (o : Open) {n : Cells} (c : Cells) {m : Cells} (kept :
   exec-keeps (Jmp reg1) = search keeps
   exec-keeps (Reg op reg1 reg2) = search keeps
   exec-keeps (Imm5 op imm reg2) = search keeps
-  exec-keeps (Sld s disp reg2) = load-keeps s disp 30 reg2 2
-  exec-keeps (Sst s disp reg2) = store-keeps s disp 30 reg2 2
+  exec-keeps (Sld s disp reg2) = load-keeps s disp ELEMENT reg2 2
+  exec-keeps (Sst s disp reg2) = store-keeps s disp ELEMENT reg2 2
   exec-keeps (Bcond cc disp) = search keeps
   exec-keeps (Imm16 op imm reg1 reg2) = search keeps
   exec-keeps (Ld s disp reg1 reg2) = load-keeps s disp reg1 reg2 4
@@ -236,8 +236,8 @@ module _ (map : List ℕ) {o : Open} {c m : Cells} (s : State o c m) where
   exec-formed (Jmp reg1) r = jmp-formed reg1
   exec-formed (Reg op reg1 reg2) r = on (ahead 2 refl) (operate-good (s .formed .cells) _ _ _ reg2 (word reg1) (word reg2))
   exec-formed (Imm5 op imm reg2) r = on (ahead 2 refl) (operate-good (s .formed .cells) _ _ _ reg2 (imm5-word op imm reg2 r) (word reg2))
-  exec-formed (Sld z disp reg2) r = load-formed z disp 30 reg2 2 refl
-  exec-formed (Sst z disp reg2) r = store-formed z disp 30 reg2 2 refl
+  exec-formed (Sld z disp reg2) r = load-formed z disp ELEMENT reg2 2 refl
+  exec-formed (Sst z disp reg2) r = store-formed z disp ELEMENT reg2 2 refl
   exec-formed (Bcond cc disp) r = bcond-formed cc disp (bcond-even cc disp r)
   exec-formed (Imm16 op imm reg1 reg2) r = on (ahead 4 refl) (operate-good (s .formed .cells) _ _ _ reg2 (imm16-word op imm reg1 reg2 r) (word reg1))
   exec-formed (Ld z disp reg1 reg2) r = load-formed z disp reg1 reg2 4 refl
@@ -360,8 +360,8 @@ reset-well-formed =
         marks = refl;
         r0 = refl;
         r0-mark = refl;
-        small = λ i. zero-small 38 i (limit i) (limit-pos i);
-        small-marks = λ i. zero-small 38 i (markLimit i) (markLimit-pos i);
+        small = λ i. zero-small CELLS i (limit i) (limit-pos i);
+        small-marks = λ i. zero-small CELLS i (markLimit i) (markLimit-pos i);
       };
     }
 

@@ -39,7 +39,7 @@ abbrev row : Kind → Bool → Bool → (ℕ → ℕ → Computed) → Operation
 row k t w f = record { kind = k; two = t; writes = w; outcome = f }
 
 unfoldable pub operation : Op → Operation
---                      flags    two   writes
+-- its flags' family, whether it has two operands, whether it writes, and what it computes
 operation Mov = row Quiet false true (λ x y. only x)
 operation Not = row Logic false true (λ x y. only (W - 1 - x))
 operation Divh = row Divide true true (λ x y. divh y x)

@@ -15,6 +15,10 @@ use Rattle.machine.specs.Marked.{tv, marked, Cells, both, cell, put}
 abbrev pub reg : ℕ → Cells → Tv
 reg n c = cell c (n % 32)
 
+-- r30 is the element pointer
+abbrev pub ELEMENT : ℕ
+ELEMENT = 30
+
 -- writing r0 drops the value
 unfoldable pub putReg : ℕ → Tv → Cells → Cells
 putReg n v c = cond (eqb (n % 32) 0) c (put (n % 32) v c)
@@ -40,6 +44,10 @@ PSW = 5
 
 abbrev pub sys : ℕ → ℕ
 sys n = 32 + n
+
+-- all of them
+abbrev pub CELLS : ℕ
+CELLS = 38
 
 -- Bits beside their marks, bit for bit
 pub record Bits : Type 0 where
@@ -86,7 +94,7 @@ abbrev rules : Rule → Rule → Rule → Rule → Rule → Rules
 rules z s ov cy sat = record { z = z; s = s; ov = ov; cy = cy; sat = sat }
 
 unfoldable pub rulesOf : Kind → Rules
---                        Z        S        OV       CY       SAT
+-- in the order Z, S, OV, CY, SAT
 rulesOf Quiet = rules kept kept kept kept kept
 rulesOf Logic = rules computed computed constant kept kept
 rulesOf Mask = rules computed constant constant kept kept

@@ -9,6 +9,7 @@ use Rattle.machine.specs.declared.Went.{Went}
 use Rattle.machine.specs.declared.Went.the-variants.{Next, Stop}
 use Rattle.machine.specs.declared.Ran.{Ran}
 use Rattle.machine.specs.Marked.{Cells, both}
+use Rattle.machine.specs.Psw.{CELLS}
 use Rattle.machine.specs.Step.{Outcome, step}
 
 -- The order's number of each answer
@@ -51,4 +52,4 @@ abbrev pub resetOpen : Open
 resetOpen = record { pc = 0; np = 0; ep = 0; id = 1; ecr = 0; code = 0; nmi = 0; halted = 0 }
 
 abbrev pub resetCells : Cells
-resetCells = both (replicate 38 0) (replicate 38 0)
+resetCells = both (replicate CELLS 0) (replicate CELLS 0)

@@ -11,7 +11,7 @@ use Rattle.word.specs.Products.{mulh, divh}
 use Rattle.word.specs.Extend.{bySign}
 use Rattle.word.specs.Flags.{conditions, holds, reads}
 use Rattle.insn.specs.Coding.{listed, regOp, regCode, imm5Op, imm5Code, imm16Op, imm16Code, bitOp, bitCode, decodeExtended, decodeFields, decode, halfwords, inRange, encode}
-use Rattle.machine.specs.Psw.{psw, sys, EIPC, EIPSW, FEPC, FEPSW, putReg, rulesOf, setFlags, setZ, condition}
+use Rattle.machine.specs.Psw.{psw, sys, EIPC, EIPSW, FEPC, FEPSW, PSW, putReg, rulesOf, setFlags, setZ, condition}
 use Rattle.machine.specs.Regions.{covers, findFrom, goodRegion, separate, goodMap}
 use Rattle.machine.specs.Memory.{bytesAt, littleEndian, extended, putBytes, changed}
 use Rattle.machine.specs.Operations.{operation, ofReg, ofImm5, ofImm16, ofShift, operate}
@@ -125,7 +125,7 @@ allTrue (k ∷ ks) = comesTrue k (result k) && allTrue ks
 abbrev minus : ℕ → ℕ
 minus n = 2 ^ 32 - n
 
---                              budget answer steps place pc flags, and cells
+-- each with its start, its budget, and how it ends: answer, steps, place, PC, PSW and some cells
 abbrev pub cases : List Case
 cases =
     -- the order's sample
@@ -151,7 +151,7 @@ cases =
     ∷ case (withModes 0 0 0 (loaded 0x100 8 (assembled (Trap 0x10 ∷ [])))) 1 Done 1 0 0x50 0x60 (seen (sys EIPC) 0x104 0 ∷ seen (sys EIPSW) 0 0 ∷ [])
     ∷ case (withPc 0x100 (withModes 0 0 0 (loaded 0x50 0xB4 (assembled (Stsr 4 1 ∷ []) ++ (replicate 0xAC 0 ++ assembled (Trap 0x10 ∷ [])))))) 2 Done 2 0 0x54 0x60 (seen 1 0x0050 0 ∷ [])
     -- XOR of a marked register with itself, a slip to expect
-    ∷ case (withCell 5 7 true (program (Reg Xor 5 5 ∷ []))) 1 Done 1 0 2 0x21 (seen 5 0 1 ∷ seen (sys 5) 0x01 0x03 ∷ [])
+    ∷ case (withCell 5 7 true (program (Reg Xor 5 5 ∷ []))) 1 Done 1 0 2 0x21 (seen 5 0 1 ∷ seen (sys PSW) 0x01 0x03 ∷ [])
     -- more slips. LDSR r5, EIPSW: system number in bits 15-11, source in 4-0
     ∷ case (withCell 5 0xAB false (withCell 1 0xCD false (program (Ldsr 5 1 ∷ [])))) 1 Done 1 0 4 0x20 (seen (sys EIPSW) 0xAB 0 ∷ [])
     -- a branch back by 4, from its own address 8
@@ -173,15 +173,15 @@ cases =
     -- RETI from an NMI takes FEPC and FEPSW, and clears PC bit 0
     ∷ case (withModes 1 0 1 (withCell (sys FEPC) 0x105 false (withCell (sys FEPSW) 0x1F false (program (Reti ∷ []))))) 1 Done 1 0 0x104 0x1F []
     -- a zero divisor leaves reg2, OV 1, S 0, Z 0; reg2 takes the divisor's mark
-    ∷ case (withCell 1 0 true (withCell 2 7 false (program (Reg Divh 1 2 ∷ [])))) 1 Done 1 0 2 0x24 (seen 2 7 1 ∷ seen (sys 5) 4 7 ∷ [])
+    ∷ case (withCell 1 0 true (withCell 2 7 false (program (Reg Divh 1 2 ∷ [])))) 1 Done 1 0 2 0x24 (seen 2 7 1 ∷ seen (sys PSW) 4 7 ∷ [])
     -- SETF stores a carry: add with carry of the manual's remark; MOVEA adds a negative number
     ∷ case (withCell 1 0xFFFFFFFF false (program (Imm5 Add5 1 1 ∷ Setf 1 2 ∷ Imm16 Movea (minus 1) 2 3 ∷ []))) 3 Done 3 0 10 0x29 (seen 1 0 0 ∷ seen 2 1 0 ∷ seen 3 0 0 ∷ [])
     -- ANDI's S is a constant, so unmarked; Z takes the mark
-    ∷ case (withCell 1 0xFFFFFFFF true (program (Imm16 Andi 0x8000 1 2 ∷ []))) 1 Done 1 0 4 0x20 (seen 2 0x8000 1 ∷ seen (sys 5) 0 1 ∷ [])
+    ∷ case (withCell 1 0xFFFFFFFF true (program (Imm16 Andi 0x8000 1 2 ∷ []))) 1 Done 1 0 4 0x20 (seen 2 0x8000 1 ∷ seen (sys PSW) 0 1 ∷ [])
     -- a store marks each byte, and the halfword read back is marked and extended by its sign
     ∷ case (withCell 1 0x8001 true (program (St Half 16 0 1 ∷ Ld Half 16 0 2 ∷ Ld Byte 17 0 3 ∷ []))) 3 Done 3 0 12 0x20 (seen 2 0xFFFF8001 1 ∷ seen 3 0xFFFFFF80 1 ∷ [])
     -- Z of a bit instruction has the byte's mark
-    ∷ case (withMark 16 (program (Bit Set1 3 16 0 ∷ Ld Byte 16 0 2 ∷ []))) 2 Done 2 0 8 0x21 (seen 2 8 1 ∷ seen (sys 5) 1 1 ∷ [])
+    ∷ case (withMark 16 (program (Bit Set1 3 16 0 ∷ Ld Byte 16 0 2 ∷ []))) 2 Done 2 0 8 0x21 (seen 2 8 1 ∷ seen (sys PSW) 1 1 ∷ [])
     -- LEAK: a branch on a marked flag, a marked base, a marked byte fetched; and no leak where the flag read is another
     ∷ case (withCell 1 1 true (program (Reg Cmp 1 2 ∷ Bcond 2 4 ∷ []))) 9 Leak 1 2 2 0x2A []
     ∷ case (withCell 1 16 true (program (Ld Byte 0 1 2 ∷ []))) 9 Leak 0 0 0 0x20 []

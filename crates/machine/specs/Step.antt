@@ -21,7 +21,7 @@ use Rattle.machine.specs.declared.Went.the-variants.{Next, Stop}
 use Rattle.machine.specs.declared.Spot.{Spot}
 use Rattle.machine.specs.declared.Spot.the-variants.{At, Nowhere}
 use Rattle.machine.specs.Marked.{plain, lift1, liftAll, Cells, cell, put, edit}
-use Rattle.machine.specs.Psw.{reg, putReg, bits, bitsAt, putBits, EIPC, EIPSW, FEPC, FEPSW, ECR, sys, setZ, condition, psw, putPswFlags, mode, spread, gathered}
+use Rattle.machine.specs.Psw.{reg, ELEMENT, putReg, bits, bitsAt, putBits, EIPC, EIPSW, FEPC, FEPSW, ECR, sys, setZ, condition, psw, putPswFlags, mode, spread, gathered}
 use Rattle.machine.specs.Regions.{find, READ, WRITE, FETCH}
 use Rattle.machine.specs.Memory.{address, bytesAt, littleEndian, extended, putBytes, changed, tests}
 use Rattle.machine.specs.Operations.{ofReg, ofImm5, ofImm16, ofShift, operate}
@@ -103,13 +103,13 @@ bitwise op n disp reg1 map o c m =
 unfoldable pub jmp : ℕ → Open → Cells → Cells → Outcome
 jmp reg1 o c m = reveal o c m (reg reg1 c) λ a. next (goto (a % 2 ^ 24 / 2 * 2) o) c m
 
--- JARL: the link is the next PC, and is unmarked
-unfoldable pub jarl : ℕ → ℕ → Open → Cells → Cells → Outcome
-jarl disp reg2 o c m = next (plus disp o) (putReg reg2 (plain (sum24 (o .pc) 4)) c) m
-
 -- Bcond: the displacement counts from the instruction's own address
 unfoldable pub bcond : ℕ → ℕ → Open → Cells → Cells → Outcome
 bcond cc disp o c m = reveal o c m (condition cc c) λ t. next (cond (eqb t 0) (plus 2 o) (plus disp o)) c m
+
+-- JARL: the link is the next PC, and is unmarked
+unfoldable pub jarl : ℕ → ℕ → Open → Cells → Cells → Outcome
+jarl disp reg2 o c m = next (plus disp o) (putReg reg2 (plain (sum24 (o .pc) 4)) c) m
 
 -- LDSR: PSW is the last of those that decoding accepts. A saved PC keeps 24 bits, a saved PSW eight
 unfoldable pub ldsr : ℕ → ℕ → Open → Cells → Cells → Outcome
@@ -161,13 +161,13 @@ return pc saved o c m =
 unfoldable pub reti : Open → Cells → Cells → Outcome
 reti o c m = cond (eqb (o .ep) 0 && eqb (o .np) 1) (return FEPC FEPSW o c m) (return EIPC EIPSW o c m)
 
--- What each instruction does. SLD and SST take their base from r30, the element pointer. House rule: HALT moves PC on by 4, and ends only when a request is accepted
+-- What each instruction does. SLD and SST take their base from the element pointer. House rule: HALT moves PC on by 4, and ends only when a request is accepted
 unfoldable pub exec : Insn → List ℕ → Open → Cells → Cells → Outcome
-exec (Jmp reg1) map o c m = jmp reg1 o c m
 exec (Reg op reg1 reg2) map o c m = next (plus 2 o) (operate (ofReg op) (reg reg1 c) (reg reg2 c) reg2 c) m
+exec (Jmp reg1) map o c m = jmp reg1 o c m
 exec (Imm5 op imm reg2) map o c m = next (plus 2 o) (operate (ofImm5 op) (plain imm) (reg reg2 c) reg2 c) m
-exec (Sld s disp reg2) map o c m = load s disp 30 reg2 2 map o c m
-exec (Sst s disp reg2) map o c m = store s disp 30 reg2 2 map o c m
+exec (Sld s disp reg2) map o c m = load s disp ELEMENT reg2 2 map o c m
+exec (Sst s disp reg2) map o c m = store s disp ELEMENT reg2 2 map o c m
 exec (Bcond cc disp) map o c m = bcond cc disp o c m
 exec (Imm16 op imm reg1 reg2) map o c m = next (plus 4 o) (operate (ofImm16 op) (plain imm) (reg reg1 c) reg2 c) m
 exec (Ld s disp reg1 reg2) map o c m = load s disp reg1 reg2 4 map o c m

@@ -6,7 +6,7 @@ use lib.Dec.{eqb, ltb, leb}
 use lib.ListN.{getD, length}
 use Rattle.machine.specs.declared.Open.{Open}
 use Rattle.machine.specs.Marked.{Cells}
-use Rattle.machine.specs.Psw.{sys, EIPC, EIPSW, FEPC, FEPSW, PSW}
+use Rattle.machine.specs.Psw.{sys, EIPC, EIPSW, FEPC, FEPSW, PSW, CELLS}
 
 -- registers, saved PCs, saved PSWs and flags have 32, 24, 8 and 5 bits; ECR's cell is not used
 abbrev pub limit : ℕ → ℕ
@@ -29,8 +29,8 @@ goodCode k = eqb k 0 || (eqb (k % 16) 0 && (leb 0x0080 k && leb k 0x0FF0))
 
 -- the cells: r0 is 0 and unmarked, and each number has a mark beside it
 pub record GoodCells (c : Cells) : Type 0 where
-  pub nums : length (c .nums) ≡ 38
-  pub marks : length (c .marks) ≡ 38
+  pub nums : length (c .nums) ≡ CELLS
+  pub marks : length (c .marks) ≡ CELLS
   pub r0 : getD (c .nums) 0 0 ≡ 0
   pub r0-mark : getD (c .marks) 0 0 ≡ 0
   pub small : (i : ℕ) → getD (c .nums) i 0 < limit i

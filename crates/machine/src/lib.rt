@@ -56,7 +56,6 @@ pub enum Op {
     Or,
     Xor,
     And,
-    Andi,
     Tst,
     Subr,
     Sub,
@@ -67,6 +66,7 @@ pub enum Op {
     Shl,
     Movea,
     Movhi,
+    Andi,
 }
 
 // Which flags an operation sets, by families.
