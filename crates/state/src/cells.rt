@@ -3,6 +3,7 @@ ghost use mathlib.Core.Path.{_≡_};
 ghost use Prim.Native.Nat.{_<_};
 ghost use Rattle.machine.specs.Marked.{both, markOf, cell, put};
 ghost use Rattle.machine.specs.Psw.{reg, putReg};
+use crate::CELLS;
 use machine::Tv;
 
 // A mark as it is written.
@@ -12,7 +13,7 @@ pub fn mark_of(mark: bool) -> u8
     if mark { 1 } else { 0 }
 }
 
-pub fn get(cells: &[u32; 38], tags: &[u8; 38], i: u32) -> Tv
+pub fn get(cells: &[u32; CELLS], tags: &[u8; CELLS], i: u32) -> Tv
     requires { ⌜ i < 38 ⌝ }
     ensures { λ r. ⌜ r ≡ cell (both (now (cells .entry)) (now (tags .entry))) i ⌝ }
 {
@@ -23,7 +24,7 @@ pub fn get(cells: &[u32; 38], tags: &[u8; 38], i: u32) -> Tv
     }
 }
 
-pub fn put(cells: &mut [u32; 38], tags: &mut [u8; 38], i: u32, v: Tv)
+pub fn put(cells: &mut [u32; CELLS], tags: &mut [u8; CELLS], i: u32, v: Tv)
     requires { ⌜ i < 38 ⌝ }
     ensures { λ _. ⌜ both (now (cells .exit)) (now (tags .exit)) ≡ put i v (both (now (cells .entry)) (now (tags .entry))) ⌝ }
 {
@@ -33,7 +34,7 @@ pub fn put(cells: &mut [u32; 38], tags: &mut [u8; 38], i: u32, v: Tv)
 }
 
 // Register n.
-pub fn reg(cells: &[u32; 38], tags: &[u8; 38], n: u32) -> Tv
+pub fn reg(cells: &[u32; CELLS], tags: &[u8; CELLS], n: u32) -> Tv
     requires { ⌜ n < 32 ⌝ }
     ensures { λ r. ⌜ r ≡ reg n (both (now (cells .entry)) (now (tags .entry))) ⌝ }
 {
@@ -41,7 +42,7 @@ pub fn reg(cells: &[u32; 38], tags: &[u8; 38], n: u32) -> Tv
 }
 
 // Writing r0 drops the value.
-pub fn put_reg(cells: &mut [u32; 38], tags: &mut [u8; 38], n: u32, v: Tv)
+pub fn put_reg(cells: &mut [u32; CELLS], tags: &mut [u8; CELLS], n: u32, v: Tv)
     requires { ⌜ n < 32 ⌝ }
     ensures { λ _. ⌜ both (now (cells .exit)) (now (tags .exit)) ≡ putReg n v (both (now (cells .entry)) (now (tags .entry))) ⌝ }
 {

@@ -7,6 +7,13 @@ pub mod operations;
 pub mod psw;
 pub mod regions;
 
+// How many cells there are, numbers of the map, and sizes of regions (three rights' of four).
+pub const CELLS: usize = 38;
+
+pub const MAP: usize = 16;
+
+pub const SIZES: usize = 12;
+
 // A bit of a byte in memory: Z of a bit instruction, 1 if the bit is 0, and the byte's mark.
 pub struct Tested {
     pub z: bool,

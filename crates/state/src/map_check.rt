@@ -2,6 +2,7 @@
 ghost use mathlib.Core.Path.{_≡_};
 ghost use Prim.Native.Nat.{_^_, _<_};
 ghost use Rattle.machine.specs.Regions.{unused, bounded, goodRegion, apart, separate, goodMap};
+use crate::MAP;
 use crate::regions;
 
 fn wide(x: u32) -> u64
@@ -11,7 +12,7 @@ fn wide(x: u32) -> u64
 }
 
 // An unused region has no other field.
-fn unused(map: &[u32; 16], k: usize) -> bool
+fn unused(map: &[u32; MAP], k: usize) -> bool
     requires { ⌜ k < 4 ⌝ }
     ensures { λ r. ⌜ r ≡ unused (now (map .entry)) k ⌝ }
 {
@@ -19,7 +20,7 @@ fn unused(map: &[u32; 16], k: usize) -> bool
 }
 
 // A used region lies within the addresses and within memory.
-fn bounded(map: &[u32; 16], n: usize, k: usize) -> bool
+fn bounded(map: &[u32; MAP], n: usize, k: usize) -> bool
     requires { ⌜ k < 4 ⌝ }
     ensures { λ r. ⌜ r ≡ bounded (now (map .entry)) n k ⌝ }
 {
@@ -31,7 +32,7 @@ fn bounded(map: &[u32; 16], n: usize, k: usize) -> bool
         & ((size % 4 == 0) & (in_addresses & (in_memory & (regions::rights(map, k) <= 7))))
 }
 
-fn good_region(map: &[u32; 16], n: usize, k: usize) -> bool
+fn good_region(map: &[u32; MAP], n: usize, k: usize) -> bool
     requires { ⌜ k < 4 ⌝ }
     ensures { λ r. ⌜ r ≡ goodRegion (now (map .entry)) n k ⌝ }
 {
@@ -49,7 +50,7 @@ fn apart(a: u32, l: u32, b: u32, m: u32) -> bool
 }
 
 // Used regions overlap neither in addresses nor in offsets.
-fn separate(map: &[u32; 16], j: usize, k: usize) -> bool
+fn separate(map: &[u32; MAP], j: usize, k: usize) -> bool
     requires { ⌜ (j < 4) × (k < 4) ⌝ }
     ensures { λ r. ⌜ r ≡ separate (now (map .entry)) j k ⌝ }
 {
@@ -60,7 +61,7 @@ fn separate(map: &[u32; 16], j: usize, k: usize) -> bool
     (l == 0) | ((m == 0) | (in_addresses & in_memory))
 }
 
-pub fn good_map(map: &[u32; 16], n: usize) -> bool
+pub fn good_map(map: &[u32; MAP], n: usize) -> bool
     ensures { λ r. ⌜ r ≡ goodMap (now (map .entry)) n ⌝ }
 {
     good_region(map, n, 0)

@@ -4,6 +4,7 @@ ghost use Prim.Native.Nat.{_<_};
 ghost use Rattle.machine.specs.Marked.{both, tv};
 ghost use Rattle.machine.specs.Psw.{putReg, setFlags};
 ghost use Rattle.machine.specs.Operations.{only, ofReg, ofImm5, ofImm16, ofShift, operate};
+use crate::CELLS;
 use crate::cells;
 use crate::psw;
 use insn::Imm5Op;
@@ -28,7 +29,7 @@ fn only(r: u32) -> Computed
 }
 
 // A result to register r.
-fn write(a: Computed, mark: bool, r: u32, cells: &mut [u32; 38], tags: &mut [u8; 38])
+fn write(a: Computed, mark: bool, r: u32, cells: &mut [u32; CELLS], tags: &mut [u8; CELLS])
     requires { ⌜ r < 32 ⌝ }
     ensures { λ _. ⌜ both (now (cells .exit)) (now (tags .exit)) ≡ putReg r (tv (a .result) mark) (both (now (cells .entry)) (now (tags .entry))) ⌝ }
 {
@@ -44,14 +45,14 @@ fn write(a: Computed, mark: bool, r: u32, cells: &mut [u32; 38], tags: &mut [u8;
 }
 
 // A result to register r, and its family's flags.
-fn quiet(a: Computed, mark: bool, r: u32, cells: &mut [u32; 38], tags: &mut [u8; 38])
+fn quiet(a: Computed, mark: bool, r: u32, cells: &mut [u32; CELLS], tags: &mut [u8; CELLS])
     requires { ⌜ r < 32 ⌝ }
     ensures { λ _. ⌜ both (now (cells .exit)) (now (tags .exit)) ≡ setFlags Kind.Quiet a mark (putReg r (tv (a .result) mark) (both (now (cells .entry)) (now (tags .entry)))) ⌝ }
 {
     write(a, mark, r, cells, tags);
 }
 
-fn logic(a: Computed, mark: bool, r: u32, cells: &mut [u32; 38], tags: &mut [u8; 38])
+fn logic(a: Computed, mark: bool, r: u32, cells: &mut [u32; CELLS], tags: &mut [u8; CELLS])
     requires { ⌜ r < 32 ⌝ }
     ensures { λ _. ⌜ both (now (cells .exit)) (now (tags .exit)) ≡ setFlags Kind.Logic a mark (putReg r (tv (a .result) mark) (both (now (cells .entry)) (now (tags .entry)))) ⌝ }
 {
@@ -59,7 +60,7 @@ fn logic(a: Computed, mark: bool, r: u32, cells: &mut [u32; 38], tags: &mut [u8;
     psw::logic_flags(a, mark, cells, tags);
 }
 
-fn mask(a: Computed, mark: bool, r: u32, cells: &mut [u32; 38], tags: &mut [u8; 38])
+fn mask(a: Computed, mark: bool, r: u32, cells: &mut [u32; CELLS], tags: &mut [u8; CELLS])
     requires { ⌜ r < 32 ⌝ }
     ensures { λ _. ⌜ both (now (cells .exit)) (now (tags .exit)) ≡ setFlags Kind.Mask a mark (putReg r (tv (a .result) mark) (both (now (cells .entry)) (now (tags .entry)))) ⌝ }
 {
@@ -67,7 +68,7 @@ fn mask(a: Computed, mark: bool, r: u32, cells: &mut [u32; 38], tags: &mut [u8; 
     psw::mask_flags(a, mark, cells, tags);
 }
 
-fn shift(a: Computed, mark: bool, r: u32, cells: &mut [u32; 38], tags: &mut [u8; 38])
+fn shift(a: Computed, mark: bool, r: u32, cells: &mut [u32; CELLS], tags: &mut [u8; CELLS])
     requires { ⌜ r < 32 ⌝ }
     ensures { λ _. ⌜ both (now (cells .exit)) (now (tags .exit)) ≡ setFlags Kind.Shift a mark (putReg r (tv (a .result) mark) (both (now (cells .entry)) (now (tags .entry)))) ⌝ }
 {
@@ -75,7 +76,7 @@ fn shift(a: Computed, mark: bool, r: u32, cells: &mut [u32; 38], tags: &mut [u8;
     psw::shift_flags(a, mark, cells, tags);
 }
 
-fn divide(a: Computed, mark: bool, r: u32, cells: &mut [u32; 38], tags: &mut [u8; 38])
+fn divide(a: Computed, mark: bool, r: u32, cells: &mut [u32; CELLS], tags: &mut [u8; CELLS])
     requires { ⌜ r < 32 ⌝ }
     ensures { λ _. ⌜ both (now (cells .exit)) (now (tags .exit)) ≡ setFlags Kind.Divide a mark (putReg r (tv (a .result) mark) (both (now (cells .entry)) (now (tags .entry)))) ⌝ }
 {
@@ -83,7 +84,7 @@ fn divide(a: Computed, mark: bool, r: u32, cells: &mut [u32; 38], tags: &mut [u8
     psw::divide_flags(a, mark, cells, tags);
 }
 
-fn arith(a: Computed, mark: bool, r: u32, cells: &mut [u32; 38], tags: &mut [u8; 38])
+fn arith(a: Computed, mark: bool, r: u32, cells: &mut [u32; CELLS], tags: &mut [u8; CELLS])
     requires { ⌜ r < 32 ⌝ }
     ensures { λ _. ⌜ both (now (cells .exit)) (now (tags .exit)) ≡ setFlags Kind.Arith a mark (putReg r (tv (a .result) mark) (both (now (cells .entry)) (now (tags .entry)))) ⌝ }
 {
@@ -91,7 +92,7 @@ fn arith(a: Computed, mark: bool, r: u32, cells: &mut [u32; 38], tags: &mut [u8;
     psw::arith_flags(a, mark, cells, tags);
 }
 
-fn saturate(a: Computed, mark: bool, r: u32, cells: &mut [u32; 38], tags: &mut [u8; 38])
+fn saturate(a: Computed, mark: bool, r: u32, cells: &mut [u32; CELLS], tags: &mut [u8; CELLS])
     requires { ⌜ r < 32 ⌝ }
     ensures { λ _. ⌜ both (now (cells .exit)) (now (tags .exit)) ≡ setFlags Kind.Saturate a mark (putReg r (tv (a .result) mark) (both (now (cells .entry)) (now (tags .entry)))) ⌝ }
 {
@@ -100,7 +101,7 @@ fn saturate(a: Computed, mark: bool, r: u32, cells: &mut [u32; 38], tags: &mut [
 }
 
 // The operation op on the operands x and y, its result to register r.
-pub fn operate(op: Op, x: Tv, y: Tv, r: u32, cells: &mut [u32; 38], tags: &mut [u8; 38])
+pub fn operate(op: Op, x: Tv, y: Tv, r: u32, cells: &mut [u32; CELLS], tags: &mut [u8; CELLS])
     requires { ⌜ r < 32 ⌝ }
     ensures { λ _. ⌜ both (now (cells .exit)) (now (tags .exit)) ≡ operate op x y r (both (now (cells .entry)) (now (tags .entry))) ⌝ }
 {

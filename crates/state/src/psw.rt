@@ -6,6 +6,7 @@ ghost use Prim.Native.Nat.{ℕ, _≤_, _<_};
 ghost use lib.ListN.{getD, set};
 ghost use Rattle.machine.specs.Marked.{both};
 ghost use Rattle.machine.specs.Psw.{PSW, sys, bits, bitsAt, putBits, setFlags, setZ, condition, psw, putPswFlags, mode, spread, gathered};
+use crate::CELLS;
 use machine::Kind;
 use machine::Open;
 use machine::Tv;
@@ -65,7 +66,7 @@ fn wide(m: u8) -> u32
 }
 
 // The flags' marks become m. Mostly nothing is or becomes marked, and one test says so: then they are 0 already, and nothing is written.
-fn put_marks(mark: bool, m: u8, tags: &mut [u8; 38])
+fn put_marks(mark: bool, m: u8, tags: &mut [u8; CELLS])
     requires { ⌜ (mark ≡ false → getD (now tags) (sys PSW) 0 ≡ 0 → m ≡ 0) ⌝ }
     ensures { λ _. ⌜ now (tags .exit) ≡ set (now (tags .entry)) (sys PSW) m ⌝ }
 {
@@ -75,7 +76,7 @@ fn put_marks(mark: bool, m: u8, tags: &mut [u8; 38])
 }
 
 // OV becomes 0; CY and SAT stay.
-pub fn logic_flags(a: Computed, mark: bool, cells: &mut [u32; 38], tags: &mut [u8; 38])
+pub fn logic_flags(a: Computed, mark: bool, cells: &mut [u32; CELLS], tags: &mut [u8; CELLS])
     ensures { λ _. ⌜ both (now (cells .exit)) (now (tags .exit)) ≡ setFlags Kind.Logic a mark (both (now (cells .entry)) (now (tags .entry))) ⌝ }
 {
     cells[FLAGS] = on(a.z, Z) + on(a.s, S) + cells[FLAGS] / CY % 4 * CY;
@@ -87,7 +88,7 @@ pub fn logic_flags(a: Computed, mark: bool, cells: &mut [u32; 38], tags: &mut [u
 }
 
 // S and OV become 0; CY and SAT stay.
-pub fn mask_flags(a: Computed, mark: bool, cells: &mut [u32; 38], tags: &mut [u8; 38])
+pub fn mask_flags(a: Computed, mark: bool, cells: &mut [u32; CELLS], tags: &mut [u8; CELLS])
     ensures { λ _. ⌜ both (now (cells .exit)) (now (tags .exit)) ≡ setFlags Kind.Mask a mark (both (now (cells .entry)) (now (tags .entry))) ⌝ }
 {
     cells[FLAGS] = on(a.z, Z) + cells[FLAGS] / CY % 4 * CY;
@@ -99,7 +100,7 @@ pub fn mask_flags(a: Computed, mark: bool, cells: &mut [u32; 38], tags: &mut [u8
 }
 
 // OV becomes 0; SAT stays.
-pub fn shift_flags(a: Computed, mark: bool, cells: &mut [u32; 38], tags: &mut [u8; 38])
+pub fn shift_flags(a: Computed, mark: bool, cells: &mut [u32; CELLS], tags: &mut [u8; CELLS])
     ensures { λ _. ⌜ both (now (cells .exit)) (now (tags .exit)) ≡ setFlags Kind.Shift a mark (both (now (cells .entry)) (now (tags .entry))) ⌝ }
 {
     cells[FLAGS] = on(a.z, Z) + on(a.s, S) + on(a.cy, CY) + cells[FLAGS] / SAT % 2 * SAT;
@@ -111,7 +112,7 @@ pub fn shift_flags(a: Computed, mark: bool, cells: &mut [u32; 38], tags: &mut [u
 }
 
 // CY and SAT stay.
-pub fn divide_flags(a: Computed, mark: bool, cells: &mut [u32; 38], tags: &mut [u8; 38])
+pub fn divide_flags(a: Computed, mark: bool, cells: &mut [u32; CELLS], tags: &mut [u8; CELLS])
     ensures { λ _. ⌜ both (now (cells .exit)) (now (tags .exit)) ≡ setFlags Kind.Divide a mark (both (now (cells .entry)) (now (tags .entry))) ⌝ }
 {
     cells[FLAGS] = on(a.z, Z) + on(a.s, S) + on(a.ov, OV) + cells[FLAGS] / CY % 4 * CY;
@@ -123,7 +124,7 @@ pub fn divide_flags(a: Computed, mark: bool, cells: &mut [u32; 38], tags: &mut [
 }
 
 // SAT stays.
-pub fn arith_flags(a: Computed, mark: bool, cells: &mut [u32; 38], tags: &mut [u8; 38])
+pub fn arith_flags(a: Computed, mark: bool, cells: &mut [u32; CELLS], tags: &mut [u8; CELLS])
     ensures { λ _. ⌜ both (now (cells .exit)) (now (tags .exit)) ≡ setFlags Kind.Arith a mark (both (now (cells .entry)) (now (tags .entry))) ⌝ }
 {
     cells[FLAGS] = on(a.z, Z)
@@ -139,7 +140,7 @@ pub fn arith_flags(a: Computed, mark: bool, cells: &mut [u32; 38], tags: &mut [u
 }
 
 // SAT is raised by OV, and its mark is added to. OV and a raised SAT are written together.
-pub fn saturate_flags(a: Computed, mark: bool, cells: &mut [u32; 38], tags: &mut [u8; 38])
+pub fn saturate_flags(a: Computed, mark: bool, cells: &mut [u32; CELLS], tags: &mut [u8; CELLS])
     ensures { λ _. ⌜ both (now (cells .exit)) (now (tags .exit)) ≡ setFlags Kind.Saturate a mark (both (now (cells .entry)) (now (tags .entry))) ⌝ }
 {
     let sat = (cells[FLAGS] / SAT % 2 * SAT) | on(a.ov, OV_SAT);
@@ -153,7 +154,7 @@ pub fn saturate_flags(a: Computed, mark: bool, cells: &mut [u32; 38], tags: &mut
 }
 
 // Z alone.
-pub fn set_z(z: bool, mark: bool, cells: &mut [u32; 38], tags: &mut [u8; 38])
+pub fn set_z(z: bool, mark: bool, cells: &mut [u32; CELLS], tags: &mut [u8; CELLS])
     ensures { λ _. ⌜ both (now (cells .exit)) (now (tags .exit)) ≡ setZ z mark (both (now (cells .entry)) (now (tags .entry))) ⌝ }
 {
     cells[FLAGS] = on(z, Z) + cells[FLAGS] / S % 16 * S;
@@ -165,7 +166,7 @@ pub fn set_z(z: bool, mark: bool, cells: &mut [u32; 38], tags: &mut [u8; 38])
 }
 
 // Condition k as a value, marked if it reads a marked flag.
-pub fn condition(k: u32, cells: &[u32; 38], tags: &[u8; 38]) -> Tv
+pub fn condition(k: u32, cells: &[u32; CELLS], tags: &[u8; CELLS]) -> Tv
     ensures { λ r. ⌜ r ≡ condition k (both (now (cells .entry)) (now (tags .entry))) ⌝ }
 {
     let j = flags::judge(k, cells[FLAGS], wide(tags[FLAGS]));
@@ -176,14 +177,14 @@ pub fn condition(k: u32, cells: &[u32; 38], tags: &[u8; 38]) -> Tv
 }
 
 // PSW: NP, EP and ID above the flags.
-pub fn psw(o: Open, cells: &[u32; 38]) -> u32
+pub fn psw(o: Open, cells: &[u32; CELLS]) -> u32
     ensures { λ r. ⌜ ((m : List ℕ) → r ≡ psw o (both (now (cells .entry)) m) .on) ⌝ }
 {
     cells[FLAGS] % 32 + 32 * (o.id % 2) + 64 * (o.ep % 2) + 128 * (o.np % 2)
 }
 
 // PSW to the cell of a saved PSW.
-pub fn save_psw(i: u32, o: Open, cells: &mut [u32; 38], tags: &mut [u8; 38])
+pub fn save_psw(i: u32, o: Open, cells: &mut [u32; CELLS], tags: &mut [u8; CELLS])
     requires { ⌜ i < 38 ⌝ }
     ensures { λ _. ⌜ both (now (cells .exit)) (now (tags .exit)) ≡ putBits i (psw o (both (now (cells .entry)) (now (tags .entry)))) (both (now (cells .entry)) (now (tags .entry))) ⌝ }
 {
@@ -193,7 +194,7 @@ pub fn save_psw(i: u32, o: Open, cells: &mut [u32; 38], tags: &mut [u8; 38])
 }
 
 // The flags out of the bits of a cell.
-pub fn put_flags(w: u32, m: u8, cells: &mut [u32; 38], tags: &mut [u8; 38])
+pub fn put_flags(w: u32, m: u8, cells: &mut [u32; CELLS], tags: &mut [u8; CELLS])
     ensures { λ _. ⌜ both (now (cells .exit)) (now (tags .exit)) ≡ putPswFlags (bits w m) (both (now (cells .entry)) (now (tags .entry))) ⌝ }
 {
     cells[FLAGS] = w % 32;
@@ -201,7 +202,7 @@ pub fn put_flags(w: u32, m: u8, cells: &mut [u32; 38], tags: &mut [u8; 38])
 }
 
 // NP, EP and ID of the saved PSW in cell i, as one value.
-pub fn mode(i: u32, cells: &[u32; 38], tags: &[u8; 38]) -> Tv
+pub fn mode(i: u32, cells: &[u32; CELLS], tags: &[u8; CELLS]) -> Tv
     requires { ⌜ i < 38 ⌝ }
     ensures { λ r. ⌜ r ≡ mode (bitsAt i (both (now (cells .entry)) (now (tags .entry)))) ⌝ }
 {
@@ -213,7 +214,7 @@ pub fn mode(i: u32, cells: &[u32; 38], tags: &[u8; 38]) -> Tv
 }
 
 // A value to the cell of a saved PSW: all bits marked, or none.
-pub fn put_spread(i: u32, v: Tv, cells: &mut [u32; 38], tags: &mut [u8; 38])
+pub fn put_spread(i: u32, v: Tv, cells: &mut [u32; CELLS], tags: &mut [u8; CELLS])
     requires { ⌜ i < 38 ⌝ }
     ensures { λ _. ⌜ both (now (cells .exit)) (now (tags .exit)) ≡ putBits i (spread v) (both (now (cells .entry)) (now (tags .entry))) ⌝ }
 {
@@ -223,7 +224,7 @@ pub fn put_spread(i: u32, v: Tv, cells: &mut [u32; 38], tags: &mut [u8; 38])
 }
 
 // The saved PSW in cell i as a value, marked if one of its bits is.
-pub fn gathered(i: u32, cells: &[u32; 38], tags: &[u8; 38]) -> Tv
+pub fn gathered(i: u32, cells: &[u32; CELLS], tags: &[u8; CELLS]) -> Tv
     requires { ⌜ i < 38 ⌝ }
     ensures { λ r. ⌜ r ≡ gathered (bitsAt i (both (now (cells .entry)) (now (tags .entry)))) ⌝ }
 {
@@ -235,7 +236,7 @@ pub fn gathered(i: u32, cells: &[u32; 38], tags: &[u8; 38]) -> Tv
 }
 
 // PSW as a value.
-pub fn gathered_psw(o: Open, cells: &[u32; 38], tags: &[u8; 38]) -> Tv
+pub fn gathered_psw(o: Open, cells: &[u32; CELLS], tags: &[u8; CELLS]) -> Tv
     ensures { λ r. ⌜ r ≡ gathered (psw o (both (now (cells .entry)) (now (tags .entry)))) ⌝ }
 {
     Tv {

@@ -8,7 +8,9 @@ ghost use Rattle.word.specs.Extend.{sum24};
 ghost use Rattle.word.specs.Sums.{difference};
 ghost use Rattle.machine.specs.Regions.{FETCH, base, size, offset, rights, find};
 ghost use Rattle.state.specs.Windows.{seen, Sizes, Laid, spotOf, Onward};
+use crate::MAP;
 use crate::Place;
+use crate::SIZES;
 use machine::Spot;
 use word::extend;
 use word::sums;
@@ -21,28 +23,28 @@ pub const TO_WRITE: u32 = 1;
 pub const TO_FETCH: u32 = 2;
 
 // The words of region k.
-pub fn base(map: &[u32; 16], k: usize) -> u32
+pub fn base(map: &[u32; MAP], k: usize) -> u32
     requires { ⌜ k < 4 ⌝ }
     ensures { λ r. ⌜ r ≡ base (now (map .entry)) k ⌝ }
 {
     map[4 * k]
 }
 
-pub fn size(map: &[u32; 16], k: usize) -> u32
+pub fn size(map: &[u32; MAP], k: usize) -> u32
     requires { ⌜ k < 4 ⌝ }
     ensures { λ r. ⌜ r ≡ size (now (map .entry)) k ⌝ }
 {
     map[4 * k + 1]
 }
 
-pub fn offset(map: &[u32; 16], k: usize) -> u32
+pub fn offset(map: &[u32; MAP], k: usize) -> u32
     requires { ⌜ k < 4 ⌝ }
     ensures { λ r. ⌜ r ≡ offset (now (map .entry)) k ⌝ }
 {
     map[4 * k + 2]
 }
 
-pub fn rights(map: &[u32; 16], k: usize) -> u32
+pub fn rights(map: &[u32; MAP], k: usize) -> u32
     requires { ⌜ k < 4 ⌝ }
     ensures { λ r. ⌜ r ≡ rights (now (map .entry)) k ⌝ }
 {
@@ -50,7 +52,7 @@ pub fn rights(map: &[u32; 16], k: usize) -> u32
 }
 
 // The size of region k as a right sees it.
-fn seen(map: &[u32; 16], right: u32, k: usize) -> u32
+fn seen(map: &[u32; MAP], right: u32, k: usize) -> u32
     requires { ⌜ (right < 3) × (k < 4) ⌝ }
     ensures { λ r. ⌜ r ≡ seen (now (map .entry)) right k ⌝ }
 {
@@ -62,7 +64,7 @@ fn seen(map: &[u32; 16], right: u32, k: usize) -> u32
 }
 
 // The sizes as each right sees them, so that a step tests a region by one comparison.
-pub fn sizes(map: &[u32; 16]) -> [u32; 12]
+pub fn sizes(map: &[u32; MAP]) -> [u32; SIZES]
     ensures { λ r. ⌜ Sizes (now (map .entry)) r ⌝ }
 {
     [
@@ -82,7 +84,7 @@ pub fn sizes(map: &[u32; 16]) -> [u32; 12]
 }
 
 // The size of region k out of them.
-fn size_to(sizes: &[u32; 12], right: u32, k: usize) -> u32
+fn size_to(sizes: &[u32; SIZES], right: u32, k: usize) -> u32
     requires { ⌜ (right < 3) × (k < 4) ⌝ }
     ensures { λ r. ⌜ r ≡ getD (now (sizes .entry)) (4 * right + k) 0 ⌝ }
 {
@@ -90,7 +92,7 @@ fn size_to(sizes: &[u32; 12], right: u32, k: usize) -> u32
 }
 
 // Region k covers the address for this right: one comparison, as a distance below its base wraps.
-fn inside(map: &[u32; 16], sizes: &[u32; 12], right: u32, k: usize, a: u32) -> bool
+fn inside(map: &[u32; MAP], sizes: &[u32; SIZES], right: u32, k: usize, a: u32) -> bool
     requires { ⌜ (right < 3) × (k < 4) ⌝ }
     ensures { λ r. ⌜ r ≡ ltb (difference a (base (now (map .entry)) k)) (getD (now (sizes .entry)) (4 * right + k) 0) ⌝ }
 {
@@ -98,7 +100,7 @@ fn inside(map: &[u32; 16], sizes: &[u32; 12], right: u32, k: usize, a: u32) -> b
 }
 
 // Where the address lies in region k, which covers it.
-fn place(map: &[u32; 16], sizes: &[u32; 12], right: u32, k: usize, a: u32) -> Place
+fn place(map: &[u32; MAP], sizes: &[u32; SIZES], right: u32, k: usize, a: u32) -> Place
     requires { ⌜ (right < 3) × (k < 4) × (difference a (base (now map) k) < getD (now sizes) (4 * right + k) 0) × (offset (now map) k + getD (now sizes) (4 * right + k) 0 ≤ 2 ^ 16) ⌝ }
     ensures { λ r. ⌜ (r .found ≡ true) × (r .at ≡ offset (now (map .entry)) k + difference a (base (now (map .entry)) k)) × (r .left + difference a (base (now (map .entry)) k) ≡ getD (now (sizes .entry)) (4 * right + k) 0) ⌝ }
 {
@@ -112,7 +114,7 @@ fn place(map: &[u32; 16], sizes: &[u32; 12], right: u32, k: usize, a: u32) -> Pl
 
 // The regions are tried in order. They are written out, as the compiler would hold a loop's counter and table in registers that the
 // steps need.
-pub fn locate(map: &[u32; 16], sizes: &[u32; 12], right: u32, a: u32) -> Place
+pub fn locate(map: &[u32; MAP], sizes: &[u32; SIZES], right: u32, a: u32) -> Place
     requires { ⌜ (right < 3) × Sizes (now map) (now sizes) × Laid (now map) ⌝ }
     ensures { λ r. ⌜ (spotOf r ≡ find (now (map .entry)) (2 ^ right) a) × Onward (now (map .entry)) (2 ^ right) a r ⌝ }
 {
@@ -135,7 +137,7 @@ pub fn locate(map: &[u32; 16], sizes: &[u32; 12], right: u32, a: u32) -> Place
     }
 }
 
-pub fn find(map: &[u32; 16], sizes: &[u32; 12], right: u32, a: u32) -> Spot
+pub fn find(map: &[u32; MAP], sizes: &[u32; SIZES], right: u32, a: u32) -> Spot
     requires { ⌜ (right < 3) × Sizes (now map) (now sizes) × Laid (now map) ⌝ }
     ensures { λ r. ⌜ r ≡ find (now (map .entry)) (2 ^ right) a ⌝ }
 {
@@ -148,7 +150,7 @@ pub fn find(map: &[u32; 16], sizes: &[u32; 12], right: u32, a: u32) -> Spot
 }
 
 // Where the second halfword of an instruction at a lies, whose first one lies at p: mostly behind it in the same region.
-pub fn second(map: &[u32; 16], sizes: &[u32; 12], p: Place, a: u32) -> Spot
+pub fn second(map: &[u32; MAP], sizes: &[u32; SIZES], p: Place, a: u32) -> Spot
     requires { ⌜ Sizes (now map) (now sizes) × Laid (now map) × Onward (now map) FETCH a p ⌝ }
     ensures { λ r. ⌜ r ≡ find (now (map .entry)) FETCH (sum24 a 2) ⌝ }
 {
