@@ -12,6 +12,7 @@ use crate::core;
 use crate::parts;
 use machine::Open;
 use machine::Tv;
+use state::CELLS;
 use state::cells;
 use state::psw;
 use word::extend;
@@ -32,7 +33,7 @@ fn sys(n: u32) -> u32
     32 + n
 }
 
-pub fn jump(base: u32, o: Packed, cells: &[u32; 38], tags: &[u8; 38]) -> Out
+pub fn jump(base: u32, o: Packed, cells: &[u32; CELLS], tags: &[u8; CELLS]) -> Out
     requires { ⌜ base < 32 ⌝ }
     ensures { λ r. ⌜ ((m : Cells) → after (wentOf o r) (both (now (cells .entry)) (now (tags .entry))) m ≡ jmp base (openOf o) (both (now (cells .entry)) (now (tags .entry))) m) ⌝ }
 {
@@ -44,7 +45,7 @@ pub fn jump(base: u32, o: Packed, cells: &[u32; 38], tags: &[u8; 38]) -> Out
 }
 
 // The displacement counts from the instruction's own address.
-pub fn branch(cond: u32, disp: u32, o: Packed, cells: &[u32; 38], tags: &[u8; 38]) -> Out
+pub fn branch(cond: u32, disp: u32, o: Packed, cells: &[u32; CELLS], tags: &[u8; CELLS]) -> Out
     ensures { λ r. ⌜ ((m : Cells) → after (wentOf o r) (both (now (cells .entry)) (now (tags .entry))) m ≡ bcond cond disp (openOf o) (both (now (cells .entry)) (now (tags .entry))) m) ⌝ }
 {
     let t = psw::condition(cond, cells, tags);
@@ -58,7 +59,13 @@ pub fn branch(cond: u32, disp: u32, o: Packed, cells: &[u32; 38], tags: &[u8; 38
 }
 
 // JARL: the link is the next PC.
-pub fn link(disp: u32, target: u32, o: Packed, cells: &mut [u32; 38], tags: &mut [u8; 38]) -> Out
+pub fn link(
+    disp: u32,
+    target: u32,
+    o: Packed,
+    cells: &mut [u32; CELLS],
+    tags: &mut [u8; CELLS],
+) -> Out
     requires { ⌜ target < 32 ⌝ }
     ensures { λ r. ⌜ ((m : Cells) → after (wentOf o r) (both (now (cells .exit)) (now (tags .exit))) m ≡ jarl disp target (openOf o) (both (now (cells .entry)) (now (tags .entry))) m) ⌝ }
 {
@@ -79,8 +86,8 @@ pub fn set_condition(
     cond: u32,
     target: u32,
     o: Packed,
-    cells: &mut [u32; 38],
-    tags: &mut [u8; 38],
+    cells: &mut [u32; CELLS],
+    tags: &mut [u8; CELLS],
 ) -> Out
     requires { ⌜ target < 32 ⌝ }
     ensures { λ r. ⌜ ((m : Cells) → after (wentOf o r) (both (now (cells .exit)) (now (tags .exit))) m ≡ next (plus 4 (openOf o)) (putReg target (condition cond (both (now (cells .entry)) (now (tags .entry)))) (both (now (cells .entry)) (now (tags .entry)))) m) ⌝ }
@@ -92,7 +99,7 @@ pub fn set_condition(
 
 // LDSR to PSW: its bits choose whether requests are accepted, so a marked value is refused. One that leaves NP, EP and ID as they are is
 // calm.
-fn load_psw(v: Tv, o: Packed, cells: &mut [u32; 38], tags: &mut [u8; 38]) -> Out
+fn load_psw(v: Tv, o: Packed, cells: &mut [u32; CELLS], tags: &mut [u8; CELLS]) -> Out
     ensures { λ r. ⌜ ((m : Cells) → after (wentOf o r) (both (now (cells .exit)) (now (tags .exit))) m ≡ reveal (openOf o) (both (now (cells .entry)) (now (tags .entry))) m v (λ w. next (plus 4 (modes (w / 2 ^ 7 % 2) (w / 2 ^ 6 % 2) (w / 2 ^ 5 % 2) (openOf o))) (putPswFlags (bits w 0) (both (now (cells .entry)) (now (tags .entry)))) m)) ⌝ }
 {
     if v.mark {
@@ -108,7 +115,7 @@ fn load_psw(v: Tv, o: Packed, cells: &mut [u32; 38], tags: &mut [u8; 38]) -> Out
 }
 
 // LDSR to the saved PC in system register n.
-fn load_pc(n: u32, v: Tv, cells: &mut [u32; 38], tags: &mut [u8; 38])
+fn load_pc(n: u32, v: Tv, cells: &mut [u32; CELLS], tags: &mut [u8; CELLS])
     requires { ⌜ n < 6 ⌝ }
     ensures { λ _. ⌜ both (now (cells .exit)) (now (tags .exit)) ≡ put (sys n) (lift1 (λ w. w % 2 ^ 24) v) (both (now (cells .entry)) (now (tags .entry))) ⌝ }
 {
@@ -123,7 +130,13 @@ fn load_pc(n: u32, v: Tv, cells: &mut [u32; 38], tags: &mut [u8; 38])
     );
 }
 
-pub fn ldsr(reg2: u32, regid: u32, o: Packed, cells: &mut [u32; 38], tags: &mut [u8; 38]) -> Out
+pub fn ldsr(
+    reg2: u32,
+    regid: u32,
+    o: Packed,
+    cells: &mut [u32; CELLS],
+    tags: &mut [u8; CELLS],
+) -> Out
     requires { ⌜ reg2 < 32 ⌝ }
     ensures { λ r. ⌜ ((m : Cells) → after (wentOf o r) (both (now (cells .exit)) (now (tags .exit))) m ≡ ldsr reg2 regid (openOf o) (both (now (cells .entry)) (now (tags .entry))) m) ⌝ }
 {
@@ -150,7 +163,7 @@ pub fn ldsr(reg2: u32, regid: u32, o: Packed, cells: &mut [u32; 38], tags: &mut 
 }
 
 // The system register regid as a value.
-fn system_value(regid: u32, o: Open, cells: &[u32; 38], tags: &[u8; 38]) -> Tv
+fn system_value(regid: u32, o: Open, cells: &[u32; CELLS], tags: &[u8; CELLS]) -> Tv
     ensures { λ r. ⌜ r ≡ system regid o (both (now (cells .entry)) (now (tags .entry))) ⌝ }
 {
     match regid {
@@ -166,7 +179,13 @@ fn system_value(regid: u32, o: Open, cells: &[u32; 38], tags: &[u8; 38]) -> Tv
     }
 }
 
-pub fn stsr(regid: u32, reg2: u32, o: Packed, cells: &mut [u32; 38], tags: &mut [u8; 38]) -> Out
+pub fn stsr(
+    regid: u32,
+    reg2: u32,
+    o: Packed,
+    cells: &mut [u32; CELLS],
+    tags: &mut [u8; CELLS],
+) -> Out
     requires { ⌜ reg2 < 32 ⌝ }
     ensures { λ r. ⌜ ((m : Cells) → after (wentOf o r) (both (now (cells .exit)) (now (tags .exit))) m ≡ next (plus 4 (openOf o)) (putReg reg2 (system regid (openOf o) (both (now (cells .entry)) (now (tags .entry)))) (both (now (cells .entry)) (now (tags .entry)))) m) ⌝ }
 {
@@ -176,7 +195,7 @@ pub fn stsr(regid: u32, reg2: u32, o: Packed, cells: &mut [u32; 38], tags: &mut 
 }
 
 // A PC and PSW to the saved registers pc and psw.
-fn save(value: u32, pc: u32, psw: u32, o: Open, cells: &mut [u32; 38], tags: &mut [u8; 38])
+fn save(value: u32, pc: u32, psw: u32, o: Open, cells: &mut [u32; CELLS], tags: &mut [u8; CELLS])
     requires { ⌜ (pc < 6) × (psw < 6) ⌝ }
     ensures { λ _. ⌜ both (now (cells .exit)) (now (tags .exit)) ≡ savePc pc value (savePsw psw o (both (now (cells .entry)) (now (tags .entry)))) ⌝ }
 {
@@ -197,8 +216,8 @@ fn exception(
     target: u32,
     np: u32,
     o: Open,
-    cells: &mut [u32; 38],
-    tags: &mut [u8; 38],
+    cells: &mut [u32; CELLS],
+    tags: &mut [u8; CELLS],
 ) -> Wide
     requires { ⌜ code < 2 ^ 16 ⌝ }
     ensures { λ r. ⌜ ((m : Cells) → after (wentWide r) (both (now (cells .exit)) (now (tags .exit))) m ≡ exception code target np o (both (now (cells .entry)) (now (tags .entry))) m) ⌝ }
@@ -207,7 +226,7 @@ fn exception(
     parts::next(parts::goto(target, parts::eicc(code, parts::modes(np, 1, 1, o))))
 }
 
-pub fn trap(vector: u32, o: Open, cells: &mut [u32; 38], tags: &mut [u8; 38]) -> Wide
+pub fn trap(vector: u32, o: Open, cells: &mut [u32; CELLS], tags: &mut [u8; CELLS]) -> Wide
     requires { ⌜ vector < 32 ⌝ }
     ensures { λ r. ⌜ ((m : Cells) → after (wentWide r) (both (now (cells .exit)) (now (tags .exit))) m ≡ trap vector o (both (now (cells .entry)) (now (tags .entry))) m) ⌝ }
 {
@@ -215,14 +234,14 @@ pub fn trap(vector: u32, o: Open, cells: &mut [u32; 38], tags: &mut [u8; 38]) ->
     exception(0x40 + vector, target, o.np, o, cells, tags)
 }
 
-pub fn illegal(o: Open, cells: &mut [u32; 38], tags: &mut [u8; 38]) -> Wide
+pub fn illegal(o: Open, cells: &mut [u32; CELLS], tags: &mut [u8; CELLS]) -> Wide
     ensures { λ r. ⌜ ((m : Cells) → after (wentWide r) (both (now (cells .exit)) (now (tags .exit))) m ≡ illegal o (both (now (cells .entry)) (now (tags .entry))) m) ⌝ }
 {
     exception(0x60, 0x60, o.np, o, cells, tags)
 }
 
 // Back to the saved PC and PSW in the registers pc and psw.
-fn return_to(pc: u32, psw: u32, o: Open, cells: &mut [u32; 38], tags: &mut [u8; 38]) -> Wide
+fn return_to(pc: u32, psw: u32, o: Open, cells: &mut [u32; CELLS], tags: &mut [u8; CELLS]) -> Wide
     requires { ⌜ (pc < 6) × (psw < 6) ⌝ }
     ensures { λ r. ⌜ ((m : Cells) → after (wentWide r) (both (now (cells .exit)) (now (tags .exit))) m ≡ return pc psw o (both (now (cells .entry)) (now (tags .entry))) m) ⌝ }
 {
@@ -244,7 +263,7 @@ fn return_to(pc: u32, psw: u32, o: Open, cells: &mut [u32; 38], tags: &mut [u8; 
     ))
 }
 
-pub fn reti(o: Open, cells: &mut [u32; 38], tags: &mut [u8; 38]) -> Wide
+pub fn reti(o: Open, cells: &mut [u32; CELLS], tags: &mut [u8; CELLS]) -> Wide
     ensures { λ r. ⌜ ((m : Cells) → after (wentWide r) (both (now (cells .exit)) (now (tags .exit))) m ≡ reti o (both (now (cells .entry)) (now (tags .entry))) m) ⌝ }
 {
     if o.ep == 0 {
@@ -268,7 +287,7 @@ pub fn code_accepted(o: Open) -> bool
 }
 
 // An NMI is accepted: it is cleared, and HALT ends.
-pub fn take_nmi(o: Open, cells: &mut [u32; 38], tags: &mut [u8; 38]) -> Wide
+pub fn take_nmi(o: Open, cells: &mut [u32; CELLS], tags: &mut [u8; CELLS]) -> Wide
     ensures { λ r. ⌜ ((m : Cells) → after (wentWide r) (both (now (cells .exit)) (now (tags .exit))) m ≡ takeNmi o (both (now (cells .entry)) (now (tags .entry))) m) ⌝ }
 {
     save(o.pc, FEPC, FEPSW, o, cells, tags);
@@ -279,7 +298,7 @@ pub fn take_nmi(o: Open, cells: &mut [u32; 38], tags: &mut [u8; 38]) -> Wide
 }
 
 // A maskable code is accepted: it is cleared, and HALT ends.
-pub fn take_code(o: Open, cells: &mut [u32; 38], tags: &mut [u8; 38]) -> Wide
+pub fn take_code(o: Open, cells: &mut [u32; CELLS], tags: &mut [u8; CELLS]) -> Wide
     requires { ⌜ o .code < 2 ^ 16 ⌝ }
     ensures { λ r. ⌜ ((m : Cells) → after (wentWide r) (both (now (cells .exit)) (now (tags .exit))) m ≡ takeCode o (both (now (cells .entry)) (now (tags .entry))) m) ⌝ }
 {

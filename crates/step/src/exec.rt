@@ -21,9 +21,12 @@ use insn::Decoded;
 use insn::Size;
 use machine::Answer;
 use machine::Open;
+use state::CELLS;
+use state::MAP;
+use state::SIZES;
 use state::operations;
 
-fn system(s: System, o: Open, cells: &mut [u32; 38], tags: &mut [u8; 38]) -> Wide
+fn system(s: System, o: Open, cells: &mut [u32; CELLS], tags: &mut [u8; CELLS]) -> Wide
     requires { ⌜ SystemFields s ⌝ }
     ensures { λ r. ⌜ ((m : Cells) → after (wentWide r) (both (now (cells .exit)) (now (tags .exit))) m ≡ doSystem s o (both (now (cells .entry)) (now (tags .entry))) m) ⌝ }
 {
@@ -39,11 +42,11 @@ fn system(s: System, o: Open, cells: &mut [u32; 38], tags: &mut [u8; 38]) -> Wid
 // Loads and stores are called by size: the compiler makes a copy of each for it, and so asks for the size once.
 fn perform(
     t: Task,
-    map: &[u32; 16],
-    sizes: &[u32; 12],
+    map: &[u32; MAP],
+    sizes: &[u32; SIZES],
     o: Packed,
-    cells: &mut [u32; 38],
-    tags: &mut [u8; 38],
+    cells: &mut [u32; CELLS],
+    tags: &mut [u8; CELLS],
     mem: &mut [u8],
     marks: &mut [u8],
 ) -> Out
@@ -195,11 +198,11 @@ fn perform(
 // What decoding gave, carried out.
 fn execute(
     d: Decoded,
-    map: &[u32; 16],
-    sizes: &[u32; 12],
+    map: &[u32; MAP],
+    sizes: &[u32; SIZES],
     o: Packed,
-    cells: &mut [u32; 38],
-    tags: &mut [u8; 38],
+    cells: &mut [u32; CELLS],
+    tags: &mut [u8; CELLS],
     mem: &mut [u8],
     marks: &mut [u8],
 ) -> Out
@@ -221,11 +224,11 @@ fn execute(
 
 // The instruction at PC.
 pub fn instruction(
-    map: &[u32; 16],
-    sizes: &[u32; 12],
+    map: &[u32; MAP],
+    sizes: &[u32; SIZES],
     o: Packed,
-    cells: &mut [u32; 38],
-    tags: &mut [u8; 38],
+    cells: &mut [u32; CELLS],
+    tags: &mut [u8; CELLS],
     mem: &mut [u8],
     marks: &mut [u8],
 ) -> Out
@@ -250,7 +253,7 @@ pub fn acts(o: Packed) -> bool
 }
 
 // The step of what comes before the next instruction.
-pub fn attend(o: Packed, cells: &mut [u32; 38], tags: &mut [u8; 38]) -> Out
+pub fn attend(o: Packed, cells: &mut [u32; CELLS], tags: &mut [u8; CELLS]) -> Out
     requires { ⌜ acts (openOf o) ≡ true ⌝ }
     ensures { λ r. ⌜ ((map : List ℕ) (m : Cells) → after (wentOf o r) (both (now (cells .exit)) (now (tags .exit))) m ≡ step map (openOf o) (both (now (cells .entry)) (now (tags .entry))) m) ⌝ }
 {

@@ -14,7 +14,9 @@ use insn::decode;
 use machine::Answer;
 use machine::Open;
 use machine::Spot;
+use state::MAP;
 use state::Place;
+use state::SIZES;
 use state::memory;
 use state::regions;
 use word::extend;
@@ -42,7 +44,7 @@ fn decoded(d: Decoded) -> Fetched
 }
 
 // The halfword at PC, and what follows from it.
-pub fn fetch(map: &[u32; 16], sizes: &[u32; 12], pc: u32, mem: &[u8], marks: &[u8]) -> Fetched
+pub fn fetch(map: &[u32; MAP], sizes: &[u32; SIZES], pc: u32, mem: &[u8], marks: &[u8]) -> Fetched
     requires { ⌜ Prepared (now map) (now sizes) (now mem) (now marks) × (pc % 2 ≡ 0) ⌝ }
     ensures { λ r. ⌜ DecodedFields (r .decoded) × ((o : Open) (c : Cells) → o .pc ≡ pc → fetched r (now (map .entry)) o c (both (now (mem .entry)) (now (marks .entry))) ≡ instruction (now (map .entry)) o c (both (now (mem .entry)) (now (marks .entry)))) ⌝ }
 {
@@ -61,8 +63,8 @@ pub fn fetch(map: &[u32; 16], sizes: &[u32; 12], pc: u32, mem: &[u8], marks: &[u
 // `decode::operation`: so the compiler makes one table of them all, and what an arm calls knows its opcode.
 fn complete(
     h: u32,
-    map: &[u32; 16],
-    sizes: &[u32; 12],
+    map: &[u32; MAP],
+    sizes: &[u32; SIZES],
     pc: u32,
     p: Place,
     mem: &[u8],
@@ -132,8 +134,8 @@ fn fetch_second(
     reg2: u32,
     opcode: u32,
     reg1: u32,
-    map: &[u32; 16],
-    sizes: &[u32; 12],
+    map: &[u32; MAP],
+    sizes: &[u32; SIZES],
     pc: u32,
     p: Place,
     mem: &[u8],

@@ -13,6 +13,9 @@ use crate::exec;
 use machine::Answer;
 use machine::Open;
 use machine::Ran;
+use state::CELLS;
+use state::MAP;
+use state::SIZES;
 use state::regions;
 
 fn reached(answer: Answer, place: u32, steps: u32, o: Packed) -> Reached
@@ -42,11 +45,11 @@ fn ended(answer: Answer, place: u32, steps: u32, o: Packed) -> Ran
 fn instructions(
     budget: u32,
     from: u32,
-    map: &[u32; 16],
-    sizes: &[u32; 12],
+    map: &[u32; MAP],
+    sizes: &[u32; SIZES],
     start: Packed,
-    cells: &mut [u32; 38],
-    tags: &mut [u8; 38],
+    cells: &mut [u32; CELLS],
+    tags: &mut [u8; CELLS],
     mem: &mut [u8],
     marks: &mut [u8],
 ) -> Reached
@@ -76,10 +79,10 @@ fn instructions(
 
 pub fn run(
     budget: u32,
-    map: &[u32; 16],
+    map: &[u32; MAP],
     start: Open,
-    cells: &mut [u32; 38],
-    tags: &mut [u8; 38],
+    cells: &mut [u32; CELLS],
+    tags: &mut [u8; CELLS],
     mem: &mut [u8],
     marks: &mut [u8],
 ) -> Ran

@@ -12,6 +12,7 @@ use crate::Task;
 use insn::Insn;
 use machine::Open;
 use machine::Tv;
+use state::CELLS;
 use state::cells;
 use state::operations;
 
@@ -24,7 +25,7 @@ fn plain(n: u32) -> Tv
     }
 }
 
-pub fn task_of(i: Insn, cells: &[u32; 38], tags: &[u8; 38]) -> Task
+pub fn task_of(i: Insn, cells: &[u32; CELLS], tags: &[u8; CELLS]) -> Task
     requires { ⌜ inRange i ≡ true ⌝ }
     ensures { λ r. ⌜ TaskFields r × ((map : List ℕ) (o : Open) (m : Cells) → doTask r map o (both (now (cells .entry)) (now (tags .entry))) m ≡ exec i map o (both (now (cells .entry)) (now (tags .entry))) m) ⌝ }
 {

@@ -12,6 +12,9 @@ use insn::BitOp;
 use insn::Size;
 use machine::Answer;
 use machine::Spot;
+use state::CELLS;
+use state::MAP;
+use state::SIZES;
 use state::cells;
 use state::memory;
 use state::psw;
@@ -31,11 +34,11 @@ pub fn load(
     base: u32,
     target: u32,
     len: u32,
-    map: &[u32; 16],
-    sizes: &[u32; 12],
+    map: &[u32; MAP],
+    sizes: &[u32; SIZES],
     o: Packed,
-    cells: &mut [u32; 38],
-    tags: &mut [u8; 38],
+    cells: &mut [u32; CELLS],
+    tags: &mut [u8; CELLS],
     mem: &[u8],
     marks: &[u8],
 ) -> Out
@@ -63,11 +66,11 @@ pub fn store(
     base: u32,
     source: u32,
     len: u32,
-    map: &[u32; 16],
-    sizes: &[u32; 12],
+    map: &[u32; MAP],
+    sizes: &[u32; SIZES],
     o: Packed,
-    cells: &[u32; 38],
-    tags: &[u8; 38],
+    cells: &[u32; CELLS],
+    tags: &[u8; CELLS],
     mem: &mut [u8],
     marks: &mut [u8],
 ) -> Out
@@ -95,11 +98,11 @@ pub fn bitwise(
     bit: u32,
     disp: u32,
     base: u32,
-    map: &[u32; 16],
-    sizes: &[u32; 12],
+    map: &[u32; MAP],
+    sizes: &[u32; SIZES],
     o: Packed,
-    cells: &mut [u32; 38],
-    tags: &mut [u8; 38],
+    cells: &mut [u32; CELLS],
+    tags: &mut [u8; CELLS],
     mem: &mut [u8],
     marks: &[u8],
 ) -> Out
