@@ -65,7 +65,7 @@ fecc x o = cause (x * 2 ^ 16 + o .ecr % 2 ^ 16) o
 abbrev pub eicc : ℕ → Open → Open
 eicc x o = cause (o .ecr / 2 ^ 16 * 2 ^ 16 + x) o
 
--- LEAK: the only way from a value to an address, a branch or a return is closed to marked values
+-- LEAK: the only way from a value to code, an address, a branch, a return or PSW is closed to marked values
 unfoldable pub reveal : Open → Cells → Cells → Tv → (ℕ → Outcome) → Outcome
 reveal o c m v k = cond (v .mark) (refuse Leak (o .pc) c m) (k (v .val))
 

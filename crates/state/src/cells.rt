@@ -1,8 +1,8 @@
-// Cells: numbers beside their marks. cells 0 to 31 are the registers, 32 to 37 the system registers.
+// Cells: numbers beside their marks. Cells 0 to 31 are the registers, 32 to 37 the system registers.
 ghost use mathlib.Core.Path.{_≡_};
 ghost use Prim.Native.Nat.{_<_};
 ghost use Rattle.machine.specs.Marked.{both, markOf, cell, put};
-ghost use Rattle.machine.specs.Psw.{reg, putReg};
+ghost use Rattle.machine.specs.Psw.{reg, putReg, CELLS};
 use crate::CELLS;
 use machine::Tv;
 
@@ -14,7 +14,7 @@ pub fn mark_of(mark: bool) -> u8
 }
 
 pub fn get(cells: &[u32; CELLS], tags: &[u8; CELLS], i: u32) -> Tv
-    requires { ⌜ i < 38 ⌝ }
+    requires { ⌜ i < CELLS ⌝ }
     ensures { λ r. ⌜ r ≡ cell (both (now (cells .entry)) (now (tags .entry))) i ⌝ }
 {
     let k = i as usize;
@@ -25,7 +25,7 @@ pub fn get(cells: &[u32; CELLS], tags: &[u8; CELLS], i: u32) -> Tv
 }
 
 pub fn put(cells: &mut [u32; CELLS], tags: &mut [u8; CELLS], i: u32, v: Tv)
-    requires { ⌜ i < 38 ⌝ }
+    requires { ⌜ i < CELLS ⌝ }
     ensures { λ _. ⌜ both (now (cells .exit)) (now (tags .exit)) ≡ put i v (both (now (cells .entry)) (now (tags .entry))) ⌝ }
 {
     let k = i as usize;

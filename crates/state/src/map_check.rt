@@ -26,7 +26,7 @@ fn bounded(map: &[u32; MAP], n: usize, k: usize) -> bool
 {
     let base = regions::base(map, k);
     let size = regions::size(map, k);
-    let in_addresses = wide(base) + wide(size) <= 16777216;
+    let in_addresses = wide(base) + wide(size) <= 0x1000000;
     let in_memory = wide(regions::offset(map, k)) + wide(size) <= n as u64;
     (base % 4 == 0)
         & ((size % 4 == 0) & (in_addresses & (in_memory & (regions::rights(map, k) <= 7))))

@@ -99,8 +99,8 @@ fn put_word(mem: &mut [u8], p: usize, x: u32)
 {
     mem[p] = (x % 256) as u8;
     mem[p + 1] = (x / 256 % 256) as u8;
-    mem[p + 2] = (x / 65536 % 256) as u8;
-    mem[p + 3] = (x / 16777216 % 256) as u8;
+    mem[p + 2] = (x / 0x10000 % 256) as u8;
+    mem[p + 3] = (x / 0x1000000 % 256) as u8;
 }
 
 // A mark as it is written, in each byte of a word.

@@ -5,7 +5,7 @@ ghost use mathlib.Core.List.{List};
 ghost use Prim.Native.Nat.{ℕ, _≤_, _<_};
 ghost use lib.ListN.{getD, set};
 ghost use Rattle.machine.specs.Marked.{both};
-ghost use Rattle.machine.specs.Psw.{PSW, sys, bits, bitsAt, putBits, setFlags, setZ, condition, psw, putPswFlags, mode, spread, gathered};
+ghost use Rattle.machine.specs.Psw.{PSW, sys, CELLS, bits, bitsAt, putBits, setFlags, setZ, condition, psw, putPswFlags, mode, spread, gathered};
 use crate::CELLS;
 use machine::Kind;
 use machine::Open;
@@ -28,7 +28,14 @@ const SAT: u32 = 16;
 
 const OV_SAT: u32 = 20;
 
-// The same of marks.
+// The modes, above them in PSW.
+pub const ID: u32 = 0x20;
+
+pub const EP: u32 = 0x40;
+
+pub const NP: u32 = 0x80;
+
+// The flags' marks, by the same bits.
 const Z_MARK: u8 = 1;
 
 const S_MARK: u8 = 2;
@@ -180,12 +187,12 @@ pub fn condition(k: u32, cells: &[u32; CELLS], tags: &[u8; CELLS]) -> Tv
 pub fn psw(o: Open, cells: &[u32; CELLS]) -> u32
     ensures { λ r. ⌜ ((m : List ℕ) → r ≡ psw o (both (now (cells .entry)) m) .on) ⌝ }
 {
-    cells[FLAGS] % 32 + 32 * (o.id % 2) + 64 * (o.ep % 2) + 128 * (o.np % 2)
+    cells[FLAGS] % ID + ID * (o.id % 2) + EP * (o.ep % 2) + NP * (o.np % 2)
 }
 
 // PSW to the cell of a saved PSW.
 pub fn save_psw(i: u32, o: Open, cells: &mut [u32; CELLS], tags: &mut [u8; CELLS])
-    requires { ⌜ i < 38 ⌝ }
+    requires { ⌜ i < CELLS ⌝ }
     ensures { λ _. ⌜ both (now (cells .exit)) (now (tags .exit)) ≡ putBits i (psw o (both (now (cells .entry)) (now (tags .entry)))) (both (now (cells .entry)) (now (tags .entry))) ⌝ }
 {
     let k = i as usize;
@@ -203,7 +210,7 @@ pub fn put_flags(w: u32, m: u8, cells: &mut [u32; CELLS], tags: &mut [u8; CELLS]
 
 // NP, EP and ID of the saved PSW in cell i, as one value.
 pub fn mode(i: u32, cells: &[u32; CELLS], tags: &[u8; CELLS]) -> Tv
-    requires { ⌜ i < 38 ⌝ }
+    requires { ⌜ i < CELLS ⌝ }
     ensures { λ r. ⌜ r ≡ mode (bitsAt i (both (now (cells .entry)) (now (tags .entry)))) ⌝ }
 {
     let k = i as usize;
@@ -215,7 +222,7 @@ pub fn mode(i: u32, cells: &[u32; CELLS], tags: &[u8; CELLS]) -> Tv
 
 // A value to the cell of a saved PSW: all bits marked, or none.
 pub fn put_spread(i: u32, v: Tv, cells: &mut [u32; CELLS], tags: &mut [u8; CELLS])
-    requires { ⌜ i < 38 ⌝ }
+    requires { ⌜ i < CELLS ⌝ }
     ensures { λ _. ⌜ both (now (cells .exit)) (now (tags .exit)) ≡ putBits i (spread v) (both (now (cells .entry)) (now (tags .entry))) ⌝ }
 {
     let k = i as usize;
@@ -225,7 +232,7 @@ pub fn put_spread(i: u32, v: Tv, cells: &mut [u32; CELLS], tags: &mut [u8; CELLS
 
 // The saved PSW in cell i as a value, marked if one of its bits is.
 pub fn gathered(i: u32, cells: &[u32; CELLS], tags: &[u8; CELLS]) -> Tv
-    requires { ⌜ i < 38 ⌝ }
+    requires { ⌜ i < CELLS ⌝ }
     ensures { λ r. ⌜ r ≡ gathered (bitsAt i (both (now (cells .entry)) (now (tags .entry)))) ⌝ }
 {
     let k = i as usize;

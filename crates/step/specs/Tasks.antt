@@ -21,7 +21,7 @@ use Rattle.step.specs.declared.Reached.{Reached}
 use Rattle.step.specs.declared.System.{System}
 use Rattle.step.specs.declared.System.the-variants.{Trap, Halt, Reti, Di, Ei}
 use Rattle.step.specs.declared.Task.{Task}
-use Rattle.step.specs.declared.Task.the-variants.{Compute, Load, Store, Bitwise, Jump, Branch, Link, Condition, Ldsr, Stsr, System as OfSystem}
+use Rattle.step.specs.declared.Task.the-variants.{Compute, Load, Store, Bitwise, Jmp, Bcond, Jarl, Setf, Ldsr, Stsr, System as OfSystem}
 use Rattle.machine.specs.Marked.{Cells}
 use Rattle.machine.specs.Psw.{putReg, condition}
 use Rattle.machine.specs.Regions.{goodMap}
@@ -95,10 +95,10 @@ doTask (Compute op x y target len) map o c m = next (plus len o) (operate op x y
 doTask (Load s disp base target len) map o c m = load s disp base target len map o c m
 doTask (Store s disp base source len) map o c m = store s disp base source len map o c m
 doTask (Bitwise op n disp base) map o c m = bitwise op n disp base map o c m
-doTask (Jump base) map o c m = jmp base o c m
-doTask (Branch cc disp) map o c m = bcond cc disp o c m
-doTask (Link disp target) map o c m = jarl disp target o c m
-doTask (Condition cc target) map o c m = next (plus 4 o) (putReg target (condition cc c) c) m
+doTask (Jmp reg1) map o c m = jmp reg1 o c m
+doTask (Bcond cc disp) map o c m = bcond cc disp o c m
+doTask (Jarl disp reg2) map o c m = jarl disp reg2 o c m
+doTask (Setf cc reg2) map o c m = next (plus 4 o) (putReg reg2 (condition cc c) c) m
 doTask (Ldsr reg2 regid) map o c m = ldsr reg2 regid o c m
 doTask (Stsr regid reg2) map o c m = next (plus 4 o) (putReg reg2 (system regid o c) c) m
 doTask (OfSystem s) map o c m = doSystem s o c m
@@ -116,10 +116,10 @@ TaskFields (Compute op x y target len) = target < 32
 TaskFields (Load s disp base target len) = (base < 32) × (target < 32)
 TaskFields (Store s disp base source len) = (base < 32) × (source < 32)
 TaskFields (Bitwise op n disp base) = (n < 8) × (base < 32)
-TaskFields (Jump base) = base < 32
-TaskFields (Branch cc disp) = Unit
-TaskFields (Link disp target) = target < 32
-TaskFields (Condition cc target) = target < 32
+TaskFields (Jmp reg1) = reg1 < 32
+TaskFields (Bcond cc disp) = Unit
+TaskFields (Jarl disp reg2) = reg2 < 32
+TaskFields (Setf cc reg2) = reg2 < 32
 TaskFields (Ldsr reg2 regid) = reg2 < 32
 TaskFields (Stsr regid reg2) = reg2 < 32
 TaskFields (OfSystem s) = SystemFields s

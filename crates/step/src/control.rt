@@ -33,19 +33,20 @@ fn sys(n: u32) -> u32
     32 + n
 }
 
-pub fn jump(base: u32, o: Packed, cells: &[u32; CELLS], tags: &[u8; CELLS]) -> Out
-    requires { ⌜ base < 32 ⌝ }
-    ensures { λ r. ⌜ ((m : Cells) → after (wentOf o r) (both (now (cells .entry)) (now (tags .entry))) m ≡ jmp base (openOf o) (both (now (cells .entry)) (now (tags .entry))) m) ⌝ }
+// JMP.
+pub fn jmp(reg1: u32, o: Packed, cells: &[u32; CELLS], tags: &[u8; CELLS]) -> Out
+    requires { ⌜ reg1 < 32 ⌝ }
+    ensures { λ r. ⌜ ((m : Cells) → after (wentOf o r) (both (now (cells .entry)) (now (tags .entry))) m ≡ jmp reg1 (openOf o) (both (now (cells .entry)) (now (tags .entry))) m) ⌝ }
 {
-    let b = cells::reg(cells, tags, base);
-    if b.mark {
+    let a = cells::reg(cells, tags, reg1);
+    if a.mark {
         return core::leak(o);
     }
-    core::goto(b.val % 16777216 / 2 * 2, o)
+    core::goto(a.val % 0x1000000 / 2 * 2, o)
 }
 
-// The displacement counts from the instruction's own address.
-pub fn branch(cond: u32, disp: u32, o: Packed, cells: &[u32; CELLS], tags: &[u8; CELLS]) -> Out
+// Bcond: the displacement counts from the instruction's own address.
+pub fn bcond(cond: u32, disp: u32, o: Packed, cells: &[u32; CELLS], tags: &[u8; CELLS]) -> Out
     ensures { λ r. ⌜ ((m : Cells) → after (wentOf o r) (both (now (cells .entry)) (now (tags .entry))) m ≡ bcond cond disp (openOf o) (both (now (cells .entry)) (now (tags .entry))) m) ⌝ }
 {
     let t = psw::condition(cond, cells, tags);
@@ -59,20 +60,20 @@ pub fn branch(cond: u32, disp: u32, o: Packed, cells: &[u32; CELLS], tags: &[u8;
 }
 
 // JARL: the link is the next PC.
-pub fn link(
+pub fn jarl(
     disp: u32,
-    target: u32,
+    reg2: u32,
     o: Packed,
     cells: &mut [u32; CELLS],
     tags: &mut [u8; CELLS],
 ) -> Out
-    requires { ⌜ target < 32 ⌝ }
-    ensures { λ r. ⌜ ((m : Cells) → after (wentOf o r) (both (now (cells .exit)) (now (tags .exit))) m ≡ jarl disp target (openOf o) (both (now (cells .entry)) (now (tags .entry))) m) ⌝ }
+    requires { ⌜ reg2 < 32 ⌝ }
+    ensures { λ r. ⌜ ((m : Cells) → after (wentOf o r) (both (now (cells .exit)) (now (tags .exit))) m ≡ jarl disp reg2 (openOf o) (both (now (cells .entry)) (now (tags .entry))) m) ⌝ }
 {
     cells::put_reg(
         cells,
         tags,
-        target,
+        reg2,
         Tv {
             val: extend::sum24(core::pc(o), 4),
             mark: false,
@@ -82,18 +83,18 @@ pub fn link(
 }
 
 // SETF.
-pub fn set_condition(
+pub fn setf(
     cond: u32,
-    target: u32,
+    reg2: u32,
     o: Packed,
     cells: &mut [u32; CELLS],
     tags: &mut [u8; CELLS],
 ) -> Out
-    requires { ⌜ target < 32 ⌝ }
-    ensures { λ r. ⌜ ((m : Cells) → after (wentOf o r) (both (now (cells .exit)) (now (tags .exit))) m ≡ next (plus 4 (openOf o)) (putReg target (condition cond (both (now (cells .entry)) (now (tags .entry)))) (both (now (cells .entry)) (now (tags .entry)))) m) ⌝ }
+    requires { ⌜ reg2 < 32 ⌝ }
+    ensures { λ r. ⌜ ((m : Cells) → after (wentOf o r) (both (now (cells .exit)) (now (tags .exit))) m ≡ next (plus 4 (openOf o)) (putReg reg2 (condition cond (both (now (cells .entry)) (now (tags .entry)))) (both (now (cells .entry)) (now (tags .entry)))) m) ⌝ }
 {
     let t = psw::condition(cond, &*cells, &*tags);
-    cells::put_reg(cells, tags, target, t);
+    cells::put_reg(cells, tags, reg2, t);
     core::plus(4, o)
 }
 
@@ -107,10 +108,15 @@ fn load_psw(v: Tv, o: Packed, cells: &mut [u32; CELLS], tags: &mut [u8; CELLS]) 
     }
     let w = v.val;
     psw::put_flags(w, 0, cells, tags);
-    if core::modes(o) == w / 32 % 8 {
+    if core::mode_bits(o) == w / psw::ID % 8 {
         return core::plus(4, o);
     }
-    let n = parts::modes(w / 128 % 2, w / 64 % 2, w / 32 % 2, core::unpack(o));
+    let n = parts::modes(
+        w / psw::NP % 2,
+        w / psw::EP % 2,
+        w / psw::ID % 2,
+        core::unpack(o),
+    );
     core::settle(parts::next(parts::plus(4, n)), o)
 }
 
@@ -124,7 +130,7 @@ fn load_pc(n: u32, v: Tv, cells: &mut [u32; CELLS], tags: &mut [u8; CELLS])
         tags,
         sys(n),
         Tv {
-            val: v.val % 16777216,
+            val: v.val % 0x1000000,
             mark: v.mark,
         },
     );

@@ -28,7 +28,7 @@ const ECR: u64 = 0x100000000;
 pub fn pc(c: Packed) -> u32
     ensures { λ r. ⌜ r ≡ openOf c .pc ⌝ }
 {
-    (c.pc % 4294967296) as u32
+    (c.pc % 0x100000000) as u32
 }
 
 // The step went on, and of what is never marked changed PC alone.
@@ -64,7 +64,7 @@ pub fn refuse(answer: Answer, place: u32, c: Packed) -> Out
     }
 }
 
-// A marked value would have chosen an address, a branch or a return.
+// A marked value would have chosen code, an address, a branch, a return or PSW.
 pub fn leak(c: Packed) -> Out
     ensures { λ r. ⌜ wentOf c r ≡ Went.Stop Answer.Leak (openOf c .pc) ⌝ }
 {
@@ -94,7 +94,7 @@ fn bit(rest: u64, place: u64) -> u32
 }
 
 // NP, EP and ID as PSW has them, bits 7 to 5.
-pub fn modes(c: Packed) -> u32
+pub fn mode_bits(c: Packed) -> u32
     ensures { λ r. ⌜ r ≡ openOf c .id + 2 * openOf c .ep + 4 * openOf c .np ⌝ }
 {
     (c.rest / ID % 8) as u32

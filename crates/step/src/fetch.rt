@@ -1,6 +1,6 @@
 // The instruction at PC: its first halfword, the second one if that asks for it, and what they decode to.
 ghost use mathlib.Core.Path.{_≡_};
-ghost use Prim.Native.Nat.{_%_, _≤_, _<_};
+ghost use Prim.Native.Nat.{_%_, _^_, _≤_, _<_};
 ghost use Rattle.word.specs.Extend.{sum24};
 ghost use Rattle.insn.specs.Coding.{reg2Of, opcodeOf, reg1Of, decodeFields, decode};
 ghost use Rattle.machine.specs.Marked.{Cells, both};
@@ -70,7 +70,7 @@ fn complete(
     mem: &[u8],
     marks: &[u8],
 ) -> Fetched
-    requires { ⌜ (h < 65536) × Prepared (now map) (now sizes) (now mem) (now marks) × (pc % 2 ≡ 0) × Onward (now map) FETCH pc p ⌝ }
+    requires { ⌜ (h < 2 ^ 16) × Prepared (now map) (now sizes) (now mem) (now marks) × (pc % 2 ≡ 0) × Onward (now map) FETCH pc p ⌝ }
     ensures { λ r. ⌜ DecodedFields (r .decoded) × ((o : Open) (c : Cells) → o .pc ≡ pc → fetched r (now (map .entry)) o c (both (now (mem .entry)) (now (marks .entry))) ≡ completed h (now (map .entry)) o c (both (now (mem .entry)) (now (marks .entry)))) ⌝ }
 {
     let reg2 = decode::reg2_of(h);
@@ -123,7 +123,7 @@ fn complete(
 
 // A short form, with its fields.
 fn alone(h: u32, reg2: u32, opcode: u32, reg1: u32) -> Fetched
-    requires { ⌜ (h < 65536) × (reg2 ≡ reg2Of h) × (opcode ≡ opcodeOf h) × (reg1 ≡ reg1Of h) × (opcode ≤ 0b101111) ⌝ }
+    requires { ⌜ (h < 2 ^ 16) × (reg2 ≡ reg2Of h) × (opcode ≡ opcodeOf h) × (reg1 ≡ reg1Of h) × (opcode ≤ 0b101111) ⌝ }
     ensures { λ r. ⌜ r ≡ record { answer = Answer.Done; place = 0; decoded = decode h 0 } ⌝ }
 {
     decoded(decode::short(h, reg2, opcode, reg1))

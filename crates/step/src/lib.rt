@@ -70,20 +70,20 @@ pub enum Task {
         disp: u32,
         base: u32,
     },
-    Jump {
-        base: u32,
+    Jmp {
+        reg1: u32,
     },
-    Branch {
+    Bcond {
         cond: u32,
         disp: u32,
     },
-    Link {
+    Jarl {
         disp: u32,
-        target: u32,
+        reg2: u32,
     },
-    Condition {
+    Setf {
         cond: u32,
-        target: u32,
+        reg2: u32,
     },
     Ldsr {
         reg2: u32,

@@ -70,7 +70,7 @@ pub fn fecc(x: u32, o: Open) -> Open
         np: o.np,
         ep: o.ep,
         id: o.id,
-        ecr: x * 65536 + o.ecr % 65536,
+        ecr: x * 0x10000 + o.ecr % 0x10000,
         code: o.code,
         nmi: o.nmi,
         halted: o.halted,
@@ -86,7 +86,7 @@ pub fn eicc(x: u32, o: Open) -> Open
         np: o.np,
         ep: o.ep,
         id: o.id,
-        ecr: o.ecr / 65536 * 65536 + x,
+        ecr: o.ecr / 0x10000 * 0x10000 + x,
         code: o.code,
         nmi: o.nmi,
         halted: o.halted,
@@ -104,7 +104,7 @@ pub fn next(o: Open) -> Wide
     }
 }
 
-// A marked value would have chosen an address, a branch or a return.
+// A marked value would have chosen a return.
 pub fn leak(o: Open) -> Wide
     ensures { λ r. ⌜ wentWide r ≡ Went.Stop Answer.Leak (o .pc) ⌝ }
 {

@@ -16,6 +16,9 @@ use state::CELLS;
 use state::cells;
 use state::operations;
 
+// The element pointer, r30.
+const ELEMENT: u32 = 30;
+
 fn plain(n: u32) -> Tv
     ensures { λ r. ⌜ r ≡ plain n ⌝ }
 {
@@ -37,7 +40,7 @@ pub fn task_of(i: Insn, cells: &[u32; CELLS], tags: &[u8; CELLS]) -> Task
             target: reg2,
             len: 2,
         },
-        Insn::Jmp { reg1 } => Task::Jump { base: reg1 },
+        Insn::Jmp { reg1 } => Task::Jmp { reg1: reg1 },
         Insn::Imm5 { op, imm, reg2 } => Task::Compute {
             op: operations::of_imm5(op),
             x: plain(imm),
@@ -48,18 +51,18 @@ pub fn task_of(i: Insn, cells: &[u32; CELLS], tags: &[u8; CELLS]) -> Task
         Insn::Sld { size, disp, reg2 } => Task::Load {
             size: size,
             disp: disp,
-            base: 30,
+            base: ELEMENT,
             target: reg2,
             len: 2,
         },
         Insn::Sst { size, disp, reg2 } => Task::Store {
             size: size,
             disp: disp,
-            base: 30,
+            base: ELEMENT,
             source: reg2,
             len: 2,
         },
-        Insn::Bcond { cond, disp } => Task::Branch {
+        Insn::Bcond { cond, disp } => Task::Bcond {
             cond: cond,
             disp: disp,
         },
@@ -99,9 +102,9 @@ pub fn task_of(i: Insn, cells: &[u32; CELLS], tags: &[u8; CELLS]) -> Task
             source: reg2,
             len: 4,
         },
-        Insn::Jarl { disp, reg2 } => Task::Link {
+        Insn::Jarl { disp, reg2 } => Task::Jarl {
             disp: disp,
-            target: reg2,
+            reg2: reg2,
         },
         Insn::Bit {
             op,
@@ -114,9 +117,9 @@ pub fn task_of(i: Insn, cells: &[u32; CELLS], tags: &[u8; CELLS]) -> Task
             disp: disp,
             base: reg1,
         },
-        Insn::Setf { cond, reg2 } => Task::Condition {
+        Insn::Setf { cond, reg2 } => Task::Setf {
             cond: cond,
-            target: reg2,
+            reg2: reg2,
         },
         Insn::Ldsr { reg2, regid } => Task::Ldsr {
             reg2: reg2,

@@ -34,13 +34,13 @@ pub fn sign9(n: u32) -> u32
 pub fn sign16(n: u32) -> u32
     ensures { λ r. ⌜ r ≡ signExtend 16 n ⌝ }
 {
-    by_sign(15, n % 65536)
+    by_sign(15, n % 0x10000)
 }
 
 pub fn sign22(n: u32) -> u32
     ensures { λ r. ⌜ r ≡ signExtend 22 n ⌝ }
 {
-    by_sign(21, n % 4194304)
+    by_sign(21, n % 0x400000)
 }
 
 pub fn zero5(n: u32) -> u32
@@ -49,28 +49,22 @@ pub fn zero5(n: u32) -> u32
     n % 32
 }
 
-pub fn zero8(n: u32) -> u32
-    ensures { λ r. ⌜ r ≡ zeroExtend 8 n ⌝ }
-{
-    n % 256
-}
-
 pub fn zero16(n: u32) -> u32
     ensures { λ r. ⌜ r ≡ zeroExtend 16 n ⌝ }
 {
-    n % 65536
+    n % 0x10000
 }
 
 // The low 16 bits of n as a high half.
 pub fn high_half(n: u32) -> u32
     ensures { λ r. ⌜ r ≡ highHalf n ⌝ }
 {
-    n % 65536 * 65536
+    n % 0x10000 * 0x10000
 }
 
 // A sum of addresses: a carry out of bit 23 is dropped.
 pub fn sum24(a: u32, b: u32) -> u32
     ensures { λ r. ⌜ r ≡ sum24 a b ⌝ }
 {
-    std::num::wrapping_add_u32(a, b) % 16777216
+    std::num::wrapping_add_u32(a, b) % 0x1000000
 }

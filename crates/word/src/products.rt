@@ -15,7 +15,7 @@ pub fn mulh(a: u32, b: u32) -> u32
 pub fn divh(a: u32, b: u32) -> Computed
     ensures { λ r. ⌜ r ≡ divh a b ⌝ }
 {
-    let d = b % 65536;
+    let d = b % 0x10000;
     if d == 0 {
         return Computed {
             result: a,
@@ -25,7 +25,7 @@ pub fn divh(a: u32, b: u32) -> Computed
             cy: false,
         };
     }
-    if a == 2147483648 {
+    if a == 0x80000000 {
         if d == 65535 {
             return signed::computed(a, true, false);
         }

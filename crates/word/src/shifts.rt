@@ -18,7 +18,7 @@ fn out_left(a: u32, k: u32) -> bool
     requires { ⌜ k < 32 ⌝ }
     ensures { λ r. ⌜ r ≡ outLeft a k ⌝ }
 {
-    ((a as u64) << k) / 4294967296 % 2 == 1
+    ((a as u64) << k) / 0x100000000 % 2 == 1
 }
 
 pub fn shr(a: u32, n: u32) -> Computed

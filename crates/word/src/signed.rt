@@ -8,7 +8,7 @@ use crate::extend;
 pub fn signed(a: u32) -> i32
     ensures { λ r. ⌜ r ≡ signed a ⌝ }
 {
-    if a < 2147483648 {
+    if a < 0x80000000 {
         a as i32
     } else {
         !(!a as i32)
@@ -36,7 +36,7 @@ pub fn computed(r: u32, ov: bool, cy: bool) -> Computed
     Computed {
         result: r,
         z: r == 0,
-        s: 2147483648 <= r,
+        s: 0x80000000 <= r,
         ov: ov,
         cy: cy,
     }

@@ -32,7 +32,7 @@ fn carry(a: u32, b: u32) -> bool
 fn sign(a: u32) -> u32
     ensures { λ r. ⌜ r ≡ a / 2 ^ 31 ⌝ }
 {
-    a / 2147483648
+    a / 0x80000000
 }
 
 // OV of the shared sum: both operands differ from it in sign.
@@ -70,10 +70,10 @@ fn saturated(a: u32, r: u32, ov: bool) -> u32
     ensures { λ w. ⌜ w ≡ cond ov (cond (ltb a (2 ^ 31)) (2 ^ 31 - 1) (2 ^ 31)) r ⌝ }
 {
     if ov {
-        if a < 2147483648 {
-            2147483647
+        if a < 0x80000000 {
+            0x7FFFFFFF
         } else {
-            2147483648
+            0x80000000
         }
     } else {
         r

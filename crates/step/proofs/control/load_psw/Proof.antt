@@ -17,8 +17,8 @@ returns c = λ m. leaked _ _ _ _ refl (c .before .if1 .taken) (c .leak .ensures)
 put-flags-requires : tie.Need-put-flags-requires
 put-flags-requires c κs = search needs
 
-modes-requires : tie.Need-modes-requires
-modes-requires c κs = search needs
+mode-bits-requires : tie.Need-mode-bits-requires
+mode-bits-requires c κs = search needs
 
 plus-requires : tie.Need-plus-requires
 plus-requires c κs = search needs
@@ -29,13 +29,13 @@ returns-2 c =
     let t = s .before .before .before .before in
     λ m.
     opened _ _ _ _ refl (t .if1 .left)
-    (on (c .plus .ensures) (sym (ap (plus 4) (modes-kept (t .before .args .o) (t .before .args .v .val) (sym (s .modes .ensures) ∙ c .before .if2 .taken)))) (s .before .put-flags .ensures) refl)
+    (on (c .plus .ensures) (sym (ap (plus 4) (modes-kept (t .before .args .o) (t .before .args .v .val) (sym (s .mode-bits .ensures) ∙ c .before .if2 .taken)))) (s .before .put-flags .ensures) refl)
 
 unpack-requires : tie.Need-unpack-requires
 unpack-requires c κs = search needs
 
-modes-requires-2 : tie.Need-modes-requires-2
-modes-requires-2 c κs = search needs
+modes-requires : tie.Need-modes-requires
+modes-requires c κs = search needs
 
 plus-requires-2 : tie.Need-plus-requires-2
 plus-requires-2 c κs = search needs
@@ -46,7 +46,7 @@ next-requires c κs = search needs
 settle-requires : tie.Need-settle-requires
 settle-requires c κs =
     let s = c .before .before .before in
-    psw-fits (s .unpack .ensures .1) (c .next .result) (s .before .before .before .before .before .before .before .args .v .val) (c .next .ensures ∙ ap Next (c .before .plus2 .ensures ∙ rw (c .before .before .modes2 .ensures)))
+    psw-fits (s .unpack .ensures .1) (c .next .result) (s .before .before .before .before .before .before .before .args .v .val) (c .next .ensures ∙ ap Next (c .before .plus2 .ensures ∙ rw (c .before .before .modes .ensures)))
 
 returns-3 : tie.Need-returns-3
 returns-3 c =
@@ -54,7 +54,7 @@ returns-3 c =
     let t = s .before .before .before in
     λ m.
     opened _ _ _ _ refl (t .before .before .before .if1 .left)
-    (on (c .settle .ensures ∙ c .before .next .ensures) (c .before .before .plus2 .ensures ∙ rw (c .before .before .before .modes2 .ensures, s .unpack .ensures .0)) (t .put-flags .ensures) refl)
+    (on (c .settle .ensures ∙ c .before .next .ensures) (c .before .before .plus2 .ensures ∙ rw (c .before .before .before .modes .ensures, s .unpack .ensures .0)) (t .put-flags .ensures) refl)
 
 pub load-psw-spec : {M : Type 1} → statement M
 load-psw-spec =
@@ -63,11 +63,11 @@ load-psw-spec =
     leak-requires
     returns
     put-flags-requires
-    modes-requires
+    mode-bits-requires
     plus-requires
     returns-2
     unpack-requires
-    modes-requires-2
+    modes-requires
     plus-requires-2
     next-requires
     settle-requires

@@ -92,30 +92,30 @@ bitwise-requires c κs =
 enum-known-t-5 : tie.Need-enum-known-t-5
 enum-known-t-5 c = search needs
 
-jump-requires : tie.Need-jump-requires
-jump-requires c κs =
+jmp-requires : tie.Need-jmp-requires
+jmp-requires c κs =
     let pre′ = c .before .before .before .before .before .before .before .pre in
     subst TaskFields (c .before .before .before .t5 .given .1) (pre′ .1)
 
 enum-known-t-6 : tie.Need-enum-known-t-6
 enum-known-t-6 c = search needs
 
-branch-requires : tie.Need-branch-requires
-branch-requires c κs = search needs
+bcond-requires : tie.Need-bcond-requires
+bcond-requires c κs = search needs
 
 enum-known-t-7 : tie.Need-enum-known-t-7
 enum-known-t-7 c = search needs
 
-link-requires : tie.Need-link-requires
-link-requires c κs =
+jarl-requires : tie.Need-jarl-requires
+jarl-requires c κs =
     let pre′ = c .before .before .before .before .before .before .before .pre in
     subst TaskFields (c .before .before .before .t7 .given .1) (pre′ .1)
 
 enum-known-t-8 : tie.Need-enum-known-t-8
 enum-known-t-8 c = search needs
 
-set-condition-requires : tie.Need-set-condition-requires
-set-condition-requires c κs =
+setf-requires : tie.Need-setf-requires
+setf-requires c κs =
     let pre′ = c .before .before .before .before .before .before .before .pre in
     subst TaskFields (c .before .before .before .t8 .given .1) (pre′ .1)
 
@@ -252,25 +252,25 @@ returns-9 : tie.Need-returns-9
 unfolding doTask
 returns-9 c =
     let t5′ = c .before .before .before .before .t5 in
-    rw (t5′ .given .1) (c .jump .ensures _)
+    rw (t5′ .given .1) (c .jmp .ensures _)
 
 returns-10 : tie.Need-returns-10
 unfolding doTask
 returns-10 c =
     let t6′ = c .before .before .before .before .t6 in
-    rw (t6′ .given .1) (c .branch .ensures _)
+    rw (t6′ .given .1) (c .bcond .ensures _)
 
 returns-11 : tie.Need-returns-11
 unfolding doTask
 returns-11 c =
     let t7′ = c .before .before .before .before .t7 in
-    rw (t7′ .given .1) (c .link .ensures _)
+    rw (t7′ .given .1) (c .jarl .ensures _)
 
 returns-12 : tie.Need-returns-12
 unfolding doTask
 returns-12 c =
     let t8′ = c .before .before .before .before .t8 in
-    rw (t8′ .given .1) (c .set-condition .ensures _)
+    rw (t8′ .given .1) (c .setf .ensures _)
 
 returns-13 : tie.Need-returns-13
 unfolding doTask
@@ -316,13 +316,13 @@ perform-spec =
     enum-known-t-4
     bitwise-requires
     enum-known-t-5
-    jump-requires
+    jmp-requires
     enum-known-t-6
-    branch-requires
+    bcond-requires
     enum-known-t-7
-    link-requires
+    jarl-requires
     enum-known-t-8
-    set-condition-requires
+    setf-requires
     enum-known-t-9
     ldsr-requires
     enum-known-t-10

@@ -2,8 +2,8 @@
 use mathlib.Core.Path.{refl, _∙_}
 use borrow.Author.Needs.{needs}
 use Rattle.step.specs.StepLaws.{on}
-use Rattle.step.proofs.control.set_condition.Statement.{statement}
-use Rattle.step.proofs.control.set_condition.Tie as tie
+use Rattle.step.proofs.control.setf.Statement.{statement}
+use Rattle.step.proofs.control.setf.Tie as tie
 
 condition-requires : tie.Need-condition-requires
 condition-requires c κs = search needs
@@ -20,6 +20,6 @@ returns c =
     λ m.
     on (c .plus .ensures) refl (c .before .put-reg .ensures ∙ rw (s .condition .ensures)) refl
 
-pub set-condition-spec : {M : Type 1} → statement M
-set-condition-spec =
+pub setf-spec : {M : Type 1} → statement M
+setf-spec =
     tie.close (tie.spec condition-requires put-reg-requires plus-requires returns)

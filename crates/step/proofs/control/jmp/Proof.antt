@@ -3,8 +3,8 @@ use mathlib.Core.Path.{refl}
 use borrow.Author.Needs.{needs}
 use Rattle.machine.specs.Step.{jmp}
 use Rattle.step.specs.StepLaws.{opened, leaked, on}
-use Rattle.step.proofs.control.jump.Statement.{statement}
-use Rattle.step.proofs.control.jump.Tie as tie
+use Rattle.step.proofs.control.jmp.Statement.{statement}
+use Rattle.step.proofs.control.jmp.Tie as tie
 
 reg-requires : tie.Need-reg-requires
 reg-requires c κs = search needs
@@ -30,7 +30,7 @@ returns-2 c =
     opened _ _ _ _ (s .before .reg .ensures) (s .if1 .left)
     (on (c .goto .ensures) refl refl refl)
 
-pub jump-spec : {M : Type 1} → statement M
-jump-spec =
+pub jmp-spec : {M : Type 1} → statement M
+jmp-spec =
     tie.close
     (tie.spec reg-requires leak-requires returns mul-goto goto-requires returns-2)

@@ -4,8 +4,8 @@ use borrow.Author.Tests.{eq-eqb, ne-eqb}
 use borrow.Author.Needs.{needs}
 use Rattle.machine.specs.Step.{bcond}
 use Rattle.step.specs.StepLaws.{opened, leaked, on}
-use Rattle.step.proofs.control.branch.Statement.{statement}
-use Rattle.step.proofs.control.branch.Tie as tie
+use Rattle.step.proofs.control.bcond.Statement.{statement}
+use Rattle.step.proofs.control.bcond.Tie as tie
 
 condition-requires : tie.Need-condition-requires
 condition-requires c κs = search needs
@@ -41,8 +41,8 @@ returns-3 c =
     opened _ _ _ _ (s .before .condition .ensures) (s .if1 .left)
     (on (c .plus2 .ensures) (rw (ne-eqb _ _ (c .before .if2 .left))) refl refl)
 
-pub branch-spec : {M : Type 1} → statement M
-branch-spec =
+pub bcond-spec : {M : Type 1} → statement M
+bcond-spec =
     tie.close
     (tie.spec
     condition-requires

@@ -3,8 +3,8 @@ use mathlib.Core.Path.{refl, _∙_}
 use Rattle.step.specs.StepLaws.{on}
 use Rattle.machine.specs.Step.{jarl}
 use borrow.Author.Needs.{needs}
-use Rattle.step.proofs.control.link.Statement.{statement}
-use Rattle.step.proofs.control.link.Tie as tie
+use Rattle.step.proofs.control.jarl.Statement.{statement}
+use Rattle.step.proofs.control.jarl.Tie as tie
 
 pc-requires : tie.Need-pc-requires
 pc-requires c κs = search needs
@@ -24,7 +24,7 @@ returns c =
     let pc′ = c .before .before .before .pc in
     λ m. on (c .plus .ensures) refl (c .before .put-reg .ensures ∙ rw (c .before .before .sum24 .ensures, pc′ .ensures)) refl
 
-pub link-spec : {M : Type 1} → statement M
-link-spec =
+pub jarl-spec : {M : Type 1} → statement M
+jarl-spec =
     tie.close
     (tie.spec pc-requires sum24-requires put-reg-requires plus-requires returns)
