@@ -128,7 +128,7 @@ uint32_t second_reti(struct machine *m, uint32_t *target)
     return SECOND_DONE;
 }
 
-/* ---- LDSR and STSR (000 pp. 66, 95) ----------------------------------- */
+/* ---- LDSR and STSR (000 p. 66, appendix A) ---------------------------- */
 
 /* LDSR marks the whole target or clears it; to PSW a mark is a LEAK. */
 uint32_t second_ldsr(struct machine *m, uint32_t number, uint32_t reg)
