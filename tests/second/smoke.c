@@ -18,6 +18,7 @@ static struct bench start, other, before;
 static uint64_t seed = 1;
 static unsigned failures;
 
+/* C leaves open which of two operands, arguments or initializers comes first, so no two of them throw. */
 static uint32_t dice(uint32_t sides)
 {
     seed ^= seed >> 12;
@@ -26,7 +27,11 @@ static uint32_t dice(uint32_t sides)
     return (uint32_t)((seed * 0x2545F4914F6CDD1Du) >> 32) % sides;
 }
 
-static uint32_t any_word(void) { return dice(65536) << 16 | dice(65536); }
+static uint32_t any_word(void)
+{
+    const uint32_t high = dice(65536);
+    return high << 16 | dice(65536);
+}
 
 static void put(struct bench *b, size_t at, uint32_t value) { put_word(b->block + at, value); }
 static uint32_t get(const struct bench *b, size_t at) { return get_word(b->block + at); }
@@ -63,6 +68,13 @@ static uint32_t any_address(void)
     return (get(&start, B_REGION(k)) + dice(length + 4)) & 0xFFFFFF;
 }
 
+/* Addresses have 24 bits, registers 32. */
+static uint32_t any_pointer(void)
+{
+    const uint32_t address = any_address();
+    return dice(8) == 0 ? address | any_word() << 24 : address;
+}
+
 static uint32_t any_value(void)
 {
     static const uint32_t corners[8] = {0, 1, 0xFFFFFFFF, 0x80000000, 0x7FFFFFFF, 0x8000, 0x7FFF, 0xFFFF};
@@ -70,7 +82,7 @@ static uint32_t any_value(void)
     case 0: return corners[dice(8)];
     case 1: return dice(64);
     case 2: return any_word();
-    default: return any_address() | (dice(8) == 0 ? any_word() << 24 : 0);
+    default: return any_pointer();
     }
 }
 
@@ -89,15 +101,53 @@ static void any_state(void)
     start.block[B_NMI] = dice(4) == 0;
 }
 
+/* Each bit below a power of two is set in one of four. */
+static uint32_t few_bits(uint32_t power)
+{
+    const uint32_t bits = dice(power);
+    return bits & dice(power);
+}
+
+/* NP, EP and ID of a saved PSW are marked less often: RETI refuses them. */
+static uint8_t saved_marks(void)
+{
+    const uint32_t bits = few_bits(256);
+    return (uint8_t)(bits & (dice(4) ? 0x1F : 0xFF));
+}
+
 static void any_marks(void)
 {
     if (dice(4) == 0) return;
-    put(&start, B_REG_MARKS, any_word() & any_word() & ~1u);
-    start.block[B_PSW_MARKS] = (uint8_t)(dice(32) & dice(32));
-    start.block[B_EIPSW_MARKS] = (uint8_t)(dice(256) & dice(256) & (dice(4) ? 0x1F : 0xFF));
-    start.block[B_FEPSW_MARKS] = (uint8_t)(dice(256) & dice(256) & (dice(4) ? 0x1F : 0xFF));
-    start.block[B_PC_MARKS] = (uint8_t)(dice(4) & dice(4));
-    for (uint32_t n = dice(40); n > 0; n--) start.marks[dice(BENCH_MEMORY)] = (uint8_t)dice(4);
+    const uint32_t bits = any_word();
+    put(&start, B_REG_MARKS, bits & any_word() & ~1u);
+    start.block[B_PSW_MARKS] = (uint8_t)few_bits(32);
+    start.block[B_EIPSW_MARKS] = saved_marks();
+    start.block[B_FEPSW_MARKS] = saved_marks();
+    start.block[B_PC_MARKS] = (uint8_t)few_bits(4);
+    for (uint32_t n = dice(40); n > 0; n--) {
+        const uint32_t at = dice(BENCH_MEMORY);
+        start.marks[at] = (uint8_t)dice(4);
+    }
+}
+
+/* Fields that are often in range. */
+static struct second_insn any_insn(void)
+{
+    struct second_insn i;
+    i.op = (enum second_op)dice(SECOND_OP_COUNT);
+    i.reg1 = dice(32);
+    i.reg2 = dice(32);
+    i.number = dice(16);
+    i.value = (int32_t)dice(dice(2) ? 32 : 65536);
+    if (dice(2)) i.value -= 16;
+    return i;
+}
+
+/* A first halfword of opcode 111111. */
+static uint16_t any_extended(void)
+{
+    const uint32_t reg2 = dice(32);
+    return (uint16_t)(reg2 << 11 | 0x7E0 | dice(32));
 }
 
 /* Mostly instructions with fields in range, now and then any halfword. */
@@ -105,10 +155,11 @@ static void any_code(void)
 {
     uint32_t at = 0, count = 0;
     while (at + 4 <= BENCH_MEMORY) {
-        struct second_insn i = {(enum second_op)dice(SECOND_OP_COUNT), dice(32), dice(32), 0, dice(16)};
-        uint16_t out[2] = {(uint16_t)dice(65536), (uint16_t)dice(65536)};
-        i.value = (int32_t)dice(dice(2) ? 32 : 65536) - (dice(2) ? 16 : 0);
-        if (dice(16) == 0) out[0] = (uint16_t)(0x7E0 | dice(32) << 11 | dice(32));
+        const struct second_insn i = any_insn();
+        uint16_t out[2];
+        out[0] = (uint16_t)dice(65536);
+        out[1] = (uint16_t)dice(65536);
+        if (dice(16) == 0) out[0] = any_extended();
         else if (dice(16) != 0 && second_encode(&i, out, &count) != SECOND_DONE) continue;
         for (uint32_t k = 0; k < 2; k++) {
             start.memory[at++] = (uint8_t)out[k];
