@@ -1,7 +1,6 @@
 /* SIZE, MAP, STATE, reset and the region view. */
 #include "test.h"
 
-#include <stdlib.h>
 #include <string.h>
 
 static uint32_t run_sizes(size_t block, size_t memory, size_t marks, size_t report)
@@ -34,8 +33,7 @@ static void sizes(void)
 /* 65,536 bytes are good, 65,537 are not; 0 bytes are good too. */
 static void memory_sizes(void)
 {
-    uint8_t *memory = calloc(2, 65537), *marks = memory + 65537;
-    if (memory == NULL) return;
+    static uint8_t memory[65537], marks[65537];
     fresh();
     set_region(0, 0, 65536, 0, 7);
     expect("65,536 bytes", second_run(t.block, 236, memory, 65536, marks, 65536, t.report, 8, 1), SECOND_DONE);
@@ -44,7 +42,6 @@ static void memory_sizes(void)
     set_region(0, 0, 0, 0, 0);
     expect("0 bytes", second_run(t.block, 236, memory, 0, marks, 0, t.report, 8, 1), SECOND_NOFETCH);
     expect("0 bytes", second_run(t.block, 236, NULL, 0, NULL, 0, t.report, 8, 1), SECOND_NOFETCH);
-    free(memory);
 }
 
 /* A refusal that writes a report of zeros and nothing else. */
