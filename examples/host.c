@@ -4,8 +4,10 @@
  * each run it prints all that is still marked, as it may tell of the key.
  *
  *   host                          the built-in image, with a key of its own
- *   host IMAGE KEY-PLACE LENGTH   a flat image, and where its key lies (hex, decimal)
+ *   host IMAGE KEY-PLACE LENGTH   a flat image, and where its key lies (hex, decimal);
+ *                                 LENGTH 0 is an image without a key
  */
+#include <ctype.h>
 #include <stdio.h>
 #include <stdlib.h>
 #include <string.h>
@@ -72,9 +74,25 @@ static int load(const char *name)
     FILE *file = fopen(name, "rb");
     if (file == NULL) return 0;
     const size_t length = fread(memory, 1, sizeof memory, file);
-    const int good = length > 0 && fgetc(file) == EOF;
+    const int good = length > 0 && fgetc(file) == EOF && !ferror(file);
     (void)fclose(file);
     return good;
+}
+
+/* All of the text is a number; strtoul by itself also takes blanks, a sign, and what only begins with one. */
+static int number(const char *text, int base, size_t *value)
+{
+    char *end;
+    if (!isxdigit((unsigned char)text[0])) return 0;
+    *value = strtoul(text, &end, base);
+    return *end == '\0';
+}
+
+/* A key that reached over the end would be open in part, or as a whole where the sum wraps. */
+static int key_given(char **words, size_t *at, size_t *length)
+{
+    return number(words[0], 16, at) && number(words[1], 10, length) && *at < sizeof marks &&
+           *length <= sizeof marks - *at;
 }
 
 static void print_marked_bits(const char *psw, uint8_t bits)
@@ -131,18 +149,17 @@ static uint32_t run(const char *when)
 int main(int argc, char **argv)
 {
     size_t key_at = 0x200, key_length = sizeof key;
-    if (argc != 1 && argc != 4) {
-        fprintf(stderr, "usage: host [IMAGE KEY-PLACE LENGTH]\n");
+    if (argc != 1 && (argc != 4 || !key_given(argv + 2, &key_at, &key_length))) {
+        fprintf(stderr, "usage: host [IMAGE KEY-PLACE LENGTH], the key within %u bytes\n", V850_MEMORY_MAX);
         return 2;
     }
-    if (argc == 4) {
-        key_at = strtoul(argv[2], NULL, 16);
-        key_length = strtoul(argv[3], NULL, 10);
-        if (!load(argv[1])) return 2;
-    } else {
+    if (argc == 1) {
         built_in();
+    } else if (!load(argv[1])) {
+        fprintf(stderr, "host: cannot read %s, or it has not 1 to %u bytes\n", argv[1], V850_MEMORY_MAX);
+        return 2;
     }
-    for (size_t at = key_at; at < key_at + key_length && at < sizeof marks; at++) marks[at] = 1;
+    memset(marks + key_at, 1, key_length);
 
     uint8_t *region = block + V850_AT_REGION(0); /* one region, all rights, offset 0 */
     put_word(region + V850_REGION_LENGTH, V850_MEMORY_MAX);
