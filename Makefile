@@ -79,7 +79,7 @@ install: library
 	sed 's|@PREFIX@|$(PREFIX)|' v850.pc.in >$(DESTDIR)$(PREFIX)/lib/pkgconfig/v850.pc
 
 clean:
-	rm -rf target tests/second/build
+	rm -rf target
 
 # The main job: the bench program on document 01's sample.
 run:
