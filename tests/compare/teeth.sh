@@ -34,11 +34,13 @@ build() {
     "$@" -o "$dir/$way/compare" "${objects[@]}"
 }
 
+# walks FAULT TARGET: the walks with a fault, or with none for 0.
+walks() { make -s --no-print-directory -C ../walks FAULT="$1" BUILD="$dir/walks/$1" "$2"; }
+
 # walk FAULT WHERE: found if the walks fail with it; they must build.
 walk() {
-    local walks=(make -s --no-print-directory -C ../walks FAULT="$1" BUILD="$dir/walks/$1")
-    "${walks[@]}" build
-    if "${walks[@]}" run >"$dir/$1.walks.txt" 2>&1; then
+    walks "$1" build
+    if walks "$1" run >"$dir/$1.walks.txt" 2>&1; then
         passed=$((passed + 1)) elsewhere+=("$1 ($2, not found)")
     else
         stopped=$((stopped + 1)) elsewhere+=("$1 ($2)")
@@ -47,6 +49,18 @@ walk() {
 
 # The number of the first case that differs, or '-'.
 first_case() { sed -n 's/^DIFFERENCE in case \([0-9]*\) .*/\1/p' "$1" | grep . || echo -; }
+
+stop() {
+    echo "teeth: $*" >&2
+    exit 1
+}
+
+# What fails without a fault would find every one.
+walks 0 run >"$dir/0.walks.txt" 2>&1 || stop "the walks fail without a fault, see $dir/0.walks.txt"
+"$X86" run "$BUILD/compare" cases="$cases" >"$dir/0.txt" || true
+[ "$(first_case "$dir/0.txt")" = - ] || stop "the comparison differs without a fault, see $dir/0.txt"
+# A row of another shape would be passed over.
+[ "$(rows | wc -l)" = "$(sed -n 's/^#define SECOND_FAULTS //p' "$SECOND/second.h")" ] || stop "FAULTS.md has not a row for each fault"
 
 beside="the library"
 case $LIBRARY in */target/staticlib/libv850.a) ;; *) beside="a stand-in with the library's entries" ;; esac
