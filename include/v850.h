@@ -47,7 +47,7 @@ extern "C" {
 #define V850_ASLEEP 4u    /* halted, and no request can be accepted; place 0 */
 #define V850_NOFETCH 5u   /* a halfword of code lies in no fetchable region; its address */
 #define V850_UNDEFINED 6u /* no instruction; PC */
-#define V850_LEAK 7u      /* a marked value would choose code, address, branch or return; PC */
+#define V850_LEAK 7u      /* a marked value would choose code, an address, a branch, a return or PSW; PC */
 #define V850_NOREAD 8u    /* an operand lies in no readable region; its address */
 #define V850_NOWRITE 9u   /* an operand lies in no writable region; its address */
 
@@ -123,8 +123,8 @@ extern "C" {
 /*
  * Runs at most budget steps and answers why it ended. A nonzero byte of marks
  * means that the byte of memory at the same place is marked; the run writes
- * only 0 or 1 there. Checks in this order: SIZE, MAP, STATE, the budget, and
- * then in each step a request, ASLEEP, the fetch, the operands.
+ * only 0 or 1 there. Checks in this order: SIZE, MAP, STATE; then for each
+ * step the budget, a request, ASLEEP, the fetch, UNDEFINED, the operands.
  */
 uint32_t v850_run(uint8_t *block, size_t block_len,
                   uint8_t *memory, size_t memory_len,
