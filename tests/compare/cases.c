@@ -1,3 +1,4 @@
+/* What each case tries, by its number: its kind, its lengths, and what fills it in. */
 #include "cases.h"
 
 #include "dice.h"

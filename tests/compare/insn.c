@@ -1,3 +1,4 @@
+/* Instructions with fields in their ranges, written into the memory through the map. */
 #include "insn.h"
 
 #include "dice.h"

@@ -1,3 +1,4 @@
+/* A start with every marked value thrown anew, and what may not differ after two runs. */
 #include "secrets.h"
 
 #include <string.h>

@@ -1,3 +1,4 @@
+/* A case, a difference, and the step at which two runs part, printed for a person. */
 #include "show.h"
 
 #include <stdio.h>

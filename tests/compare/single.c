@@ -1,3 +1,4 @@
+/* One step: an instruction or two halfwords at PC, operands at corners, addresses at edges. */
 #include "single.h"
 
 #include "dice.h"

@@ -1,3 +1,4 @@
+/* The four buffers with gaps around them: laid out, copied, resized. */
 #include "start.h"
 
 #include <string.h>

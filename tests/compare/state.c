@@ -1,3 +1,4 @@
+/* Good states, requests and marks. */
 #include "state.h"
 
 #include <string.h>

@@ -1,3 +1,4 @@
+/* Counts what was met, prints it, and names what never was. */
 #include "tally.h"
 
 #include <stdio.h>
