@@ -1,8 +1,8 @@
 /*
  * A second program for the V850 base with secrecy marks, written from the
- * scope paper (01), the architecture manual (000), the table of conditions
- * (003) and points 1 to 36 of docs/DECISIONS.md, which settle what these leave
- * open. It exists to be compared with the proved emulator, byte by byte.
+ * order (01), the architecture manual (000), the table of conditions (003) and
+ * points 1 to 36 of docs/DECISIONS.md, which settle what these leave open. It
+ * exists to be compared with the proved emulator, byte by byte.
  */
 #ifndef SECOND_H
 #define SECOND_H
