@@ -6,6 +6,7 @@
  *   compare [cases=N] [seed=S] [from=N] [brief]   compare N cases
  *   compare case=N [seed=S]                       one case, and show everything of it
  */
+#include <ctype.h>
 #include <stdio.h>
 #include <stdlib.h>
 #include <string.h>
@@ -108,9 +109,10 @@ static bool one_case(uint64_t number)
 static bool option(const char *word, const char *name, uint64_t *value)
 {
     const size_t length = strlen(name);
-    if (strncmp(word, name, length) != 0) return false;
-    *value = strtoull(word + length, NULL, 0);
-    return true;
+    char *end;
+    if (strncmp(word, name, length) != 0 || !isdigit((unsigned char)word[length])) return false;
+    *value = strtoull(word + length, &end, 0);
+    return *end == '\0';
 }
 
 int main(int argc, char **argv)

@@ -8,6 +8,7 @@
  */
 #include "test.h"
 
+#include <ctype.h>
 #include <stdio.h>
 #include <stdlib.h>
 #include <string.h>
@@ -285,12 +286,25 @@ static void print_stats(const struct second_stats *s, const uint64_t answers[11]
         printf("%10llu %s\n", (unsigned long long)answers[a], second_answer_name(a));
 }
 
+/* What is no number would count as 0: no starts, and all of them passed. */
+static bool number(const char *word, unsigned long *value)
+{
+    char *end;
+    if (!isdigit((unsigned char)word[0])) return false;
+    *value = strtoul(word, &end, 0);
+    return *end == '\0';
+}
+
 int main(int argc, char **argv)
 {
-    const unsigned long starts = argc > 1 ? strtoul(argv[1], NULL, 0) : 20000;
     static struct second_stats stats;
+    unsigned long starts = 20000, chosen = 0;
     uint64_t answers[11] = {0}, steps = 0, digest = 0xCBF29CE484222325u;
-    if (argc > 2) seed = strtoul(argv[2], NULL, 0) * 2 + 1;
+    if (argc > 3 || (argc > 1 && !number(argv[1], &starts)) || (argc > 2 && !number(argv[2], &chosen))) {
+        fprintf(stderr, "usage: smoke [starts [seed]]\n");
+        return 2;
+    }
+    seed = chosen * 2 + 1;
     for (unsigned long n = 0; n < starts; n++) {
         const uint32_t budget = dice(40);
         any_start();
