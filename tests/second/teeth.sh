@@ -5,6 +5,7 @@ cc=$1
 dir=$2/teeth
 flags="-std=c11 -Wall -Wextra -Wpedantic -Wconversion -Werror"
 last=$(sed -n 's/^#define SECOND_FAULTS //p' second.h)
+[ "${last:-0}" -gt 0 ] || { echo "second.h does not say how many faults there are"; exit 1; }
 mkdir -p "$dir" || exit 1
 objects=
 for file in $TESTS; do
