@@ -52,14 +52,20 @@ static void print_registers(void)
 
 int main(int argc, char **argv)
 {
-    if (argc < 6) return 2;
+    if (argc < 6) {
+        fprintf(stderr, "usage: speed v850|second IMAGE MEMORY BUDGET REPEATS [registers]\n");
+        return 2;
+    }
     const int ours = strcmp(argv[1], "v850") == 0;
     const size_t length = strtoul(argv[3], NULL, 0);
     const uint32_t budget = (uint32_t)strtoul(argv[4], NULL, 0);
     double best = 1e18;
     uint32_t answer = 0;
     FILE *file = fopen(argv[2], "rb");
-    if (file == NULL || length > sizeof memory || fread(image, 1, length, file) == 0) return 2;
+    if (file == NULL || length > sizeof memory || fread(image, 1, length, file) == 0 || fgetc(file) != EOF) {
+        fprintf(stderr, "speed: cannot read %s into %s bytes\n", argv[2], argv[3]);
+        return 2;
+    }
     (void)fclose(file);
     memcpy(memory, image, length);
     for (unsigned long left = strtoul(argv[5], NULL, 0); left > 0; left--) {
