@@ -1,20 +1,23 @@
--- The flags as the code writes them: the sum of what is computed and of the bits that stay, for values and for marks alike.
+-- The flags as the code writes them: the sum of what is computed and of the bits that stay, for values and for marks alike; and before the register.
 use mathlib.Core.Path.{_≡_, refl, sym, ap, ap₂, _∙_}
 use mathlib.Core.Bool.{Bool, true, false, cond, _||_}
+use mathlib.Core.List.{List}
 use Prim.Native.Nat.{ℕ, zero, suc, _+_, _*_, _/_, _%_, _^_, _<_}
 use native.Mathlib.Omega.{arith}
 use lib.Bits.{bitOr}
 use lib.Dec.{eqb}
 use lib.ListN.{getD, set}
 use lib.Pow.{shr-shr, mod-pow-add}
+use lib.Seq.{set-comm, getD-set-other}
 use Rattle.word.specs.declared.Computed.{Computed}
 use Rattle.word.specs.Shifts.{bit}
 use Rattle.word.specs.Flags.{Flags, unpacked, packed}
 use Rattle.word.specs.FlagLaws.{packed-unpacked, unpacked-low}
 use Rattle.machine.specs.declared.Kind.{Kind}
 use Rattle.machine.specs.declared.Kind.the-variants.{Quiet, Logic, Mask, Shift, Divide, Arith, Saturate}
-use Rattle.machine.specs.Marked.{Cells, both}
-use Rattle.machine.specs.Psw.{rulesOf, followAll, told, everyFlag, quiet, setFlags, withZ, setZ}
+use Rattle.machine.specs.declared.Tv.{Tv}
+use Rattle.machine.specs.Marked.{Cells, both, put, markOf}
+use Rattle.machine.specs.Psw.{putReg, rulesOf, followAll, told, everyFlag, quiet, setFlags, withZ, setZ}
 
 -- one bit where it stands, and the bits from j on as bit j and those above it
 worth : (p r : ℕ) → r < 2 → cond (eqb r 1) p 0 ≡ r * p
@@ -129,3 +132,27 @@ set-z z mark c = ap₂ (λ (x y : ℕ). both (set (c .nums) 37 x) (set (c .marks
   where
     with-z : (b : Bool) (n : ℕ) → cond b 1 0 + n / 2 % 16 * 2 ≡ packed (withZ b (unpacked n))
     with-z b n = omega (arith, from1 n)
+
+-- The flags may be written before the register, as they lie in another cell
+elsewhere : (l : List ℕ) (i x : ℕ) (f : ℕ → ℕ) → i < 32 → set (set l 37 (f (getD l 37 0))) i x ≡ set (set l i x) 37 (f (getD (set l i x) 37 0))
+elsewhere l i x f h =
+    set-comm l 37 i _ x (λ e. omega (arith, e)) ∙ ap (λ (n : ℕ). set (set l i x) 37 (f n)) (sym (getD-set-other l i 37 x 0 (λ e. omega (arith, e))))
+
+pub flags-first : (k : Kind) (a : Computed) (mark : Bool) (r : ℕ) (v : Tv) (c : Cells) → putReg r v (setFlags k a mark c) ≡ setFlags k a mark (putReg r v c)
+unfolding putReg setFlags
+flags-first k a mark r v c = go (quiet k) (eqb (r % 32) 0)
+  where
+    F : ℕ → ℕ
+    F n = packed (followAll (rulesOf k) (unpacked n) (told a))
+
+    G : ℕ → ℕ
+    G n = packed (followAll (rulesOf k) (unpacked n) (everyFlag mark))
+
+    Flagged : Cells → Cells
+    Flagged d = both (set (d .nums) 37 (F (getD (d .nums) 37 0))) (set (d .marks) 37 (G (getD (d .marks) 37 0)))
+
+    go : (q z : Bool) → cond z (cond q c (Flagged c)) (put (r % 32) v (cond q c (Flagged c))) ≡ cond q (cond z c (put (r % 32) v c)) (Flagged (cond z c (put (r % 32) v c)))
+    go true true = refl
+    go true false = refl
+    go false true = refl
+    go false false = ap₂ both (elsewhere (c .nums) (r % 32) (v .val) F (omega arith)) (elsewhere (c .marks) (r % 32) (markOf (v .mark)) G (omega arith))

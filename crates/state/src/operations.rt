@@ -44,7 +44,7 @@ fn write(a: Computed, mark: bool, r: u32, cells: &mut [u32; CELLS], tags: &mut [
     );
 }
 
-// A result to register r, and its family's flags.
+// A result to register r, and its family's flags. The flags go first, which is faster, and the same: they lie in another cell.
 fn quiet(a: Computed, mark: bool, r: u32, cells: &mut [u32; CELLS], tags: &mut [u8; CELLS])
     requires { ⌜ r < 32 ⌝ }
     ensures { λ _. ⌜ both (now (cells .exit)) (now (tags .exit)) ≡ setFlags Kind.Quiet a mark (putReg r (tv (a .result) mark) (both (now (cells .entry)) (now (tags .entry)))) ⌝ }
@@ -56,48 +56,48 @@ fn logic(a: Computed, mark: bool, r: u32, cells: &mut [u32; CELLS], tags: &mut [
     requires { ⌜ r < 32 ⌝ }
     ensures { λ _. ⌜ both (now (cells .exit)) (now (tags .exit)) ≡ setFlags Kind.Logic a mark (putReg r (tv (a .result) mark) (both (now (cells .entry)) (now (tags .entry)))) ⌝ }
 {
-    write(a, mark, r, cells, tags);
     psw::logic_flags(a, mark, cells, tags);
+    write(a, mark, r, cells, tags);
 }
 
 fn mask(a: Computed, mark: bool, r: u32, cells: &mut [u32; CELLS], tags: &mut [u8; CELLS])
     requires { ⌜ r < 32 ⌝ }
     ensures { λ _. ⌜ both (now (cells .exit)) (now (tags .exit)) ≡ setFlags Kind.Mask a mark (putReg r (tv (a .result) mark) (both (now (cells .entry)) (now (tags .entry)))) ⌝ }
 {
-    write(a, mark, r, cells, tags);
     psw::mask_flags(a, mark, cells, tags);
+    write(a, mark, r, cells, tags);
 }
 
 fn shift(a: Computed, mark: bool, r: u32, cells: &mut [u32; CELLS], tags: &mut [u8; CELLS])
     requires { ⌜ r < 32 ⌝ }
     ensures { λ _. ⌜ both (now (cells .exit)) (now (tags .exit)) ≡ setFlags Kind.Shift a mark (putReg r (tv (a .result) mark) (both (now (cells .entry)) (now (tags .entry)))) ⌝ }
 {
-    write(a, mark, r, cells, tags);
     psw::shift_flags(a, mark, cells, tags);
+    write(a, mark, r, cells, tags);
 }
 
 fn divide(a: Computed, mark: bool, r: u32, cells: &mut [u32; CELLS], tags: &mut [u8; CELLS])
     requires { ⌜ r < 32 ⌝ }
     ensures { λ _. ⌜ both (now (cells .exit)) (now (tags .exit)) ≡ setFlags Kind.Divide a mark (putReg r (tv (a .result) mark) (both (now (cells .entry)) (now (tags .entry)))) ⌝ }
 {
-    write(a, mark, r, cells, tags);
     psw::divide_flags(a, mark, cells, tags);
+    write(a, mark, r, cells, tags);
 }
 
 fn arith(a: Computed, mark: bool, r: u32, cells: &mut [u32; CELLS], tags: &mut [u8; CELLS])
     requires { ⌜ r < 32 ⌝ }
     ensures { λ _. ⌜ both (now (cells .exit)) (now (tags .exit)) ≡ setFlags Kind.Arith a mark (putReg r (tv (a .result) mark) (both (now (cells .entry)) (now (tags .entry)))) ⌝ }
 {
-    write(a, mark, r, cells, tags);
     psw::arith_flags(a, mark, cells, tags);
+    write(a, mark, r, cells, tags);
 }
 
 fn saturate(a: Computed, mark: bool, r: u32, cells: &mut [u32; CELLS], tags: &mut [u8; CELLS])
     requires { ⌜ r < 32 ⌝ }
     ensures { λ _. ⌜ both (now (cells .exit)) (now (tags .exit)) ≡ setFlags Kind.Saturate a mark (putReg r (tv (a .result) mark) (both (now (cells .entry)) (now (tags .entry)))) ⌝ }
 {
-    write(a, mark, r, cells, tags);
     psw::saturate_flags(a, mark, cells, tags);
+    write(a, mark, r, cells, tags);
 }
 
 // The operation op on the operands x and y, its result to register r.
