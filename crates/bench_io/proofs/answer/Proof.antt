@@ -1,3 +1,4 @@
+-- The line fits its room (`line-fits`), so what goes out is a part of the room.
 use mathlib.Core.Path.{sym}
 use Prim.Native.Nat.{_≤_}
 use native.Mathlib.Omega.{arith}

@@ -1,3 +1,4 @@
+-- What was read lies within the room (`within`), so the input is a part of the room.
 use mathlib.Core.Path.{sym}
 use lib.Seq.{length-take-le}
 use Rattle.bench_io.specs.Reading.{within}

@@ -1,3 +1,4 @@
+-- The place stays within the room, and each read that brings something leaves less of it.
 use mathlib.Core.Path.{_≡_}
 use Prim.Native.Nat.{_-_, _≤_}
 use native.Mathlib.Omega.{arith}

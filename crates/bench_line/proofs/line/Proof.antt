@@ -1,3 +1,4 @@
+-- The five numbers of the line are those of what the run left (`line-wrote`).
 use Rattle.bench_line.specs.LineLaws.{line-wrote}
 use borrow.Author.Needs.{needs}
 use Rattle.bench_line.proofs.line.Statement.{statement}

@@ -1,3 +1,4 @@
+-- Six texts one after the other are one text, and each has room: decimal has at most ten digits, hex as many as were asked for.
 use native.Mathlib.Omega.{arith}
 use Rattle.bench_line.specs.Text.{DIGITS}
 use Rattle.bench_line.specs.TextLaws.{wrote-then, decimal-length, hex-length}

@@ -1,3 +1,4 @@
+-- The input written to zeros leaves the zeros behind it.
 use Rattle.bench_line.specs.LineLaws.{padded-wrote}
 use borrow.Author.Needs.{needs}
 use Rattle.bench_line.proofs.image.padded.Statement.{statement}

@@ -1,3 +1,4 @@
+-- Either way of the test is the definition's: an input that is not run (`not-run`), or what its call leaves (`run-left`).
 use Rattle.bench_line.specs.LineLaws.{not-run, run-left}
 use borrow.Author.Needs.{needs}
 use Rattle.bench_line.proofs.image.run.Statement.{statement}

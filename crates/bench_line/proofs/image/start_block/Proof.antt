@@ -1,3 +1,4 @@
+-- Every byte of the block before the reset is known, so its reset computes.
 use mathlib.Core.Path.{ap}
 use Rattle.v850.specs.Block.{wordsFrom}
 use Rattle.v850.specs.Entry.{Reset, reset}

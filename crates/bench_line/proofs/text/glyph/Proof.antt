@@ -1,3 +1,4 @@
+-- The code's test is the definition's.
 use Rattle.bench_line.specs.Text.{glyph}
 use borrow.Author.Tests.{lt-ltb, le-ltb}
 use borrow.Author.Needs.{needs}

@@ -1,3 +1,4 @@
+-- Two texts one after the other are one text.
 use Rattle.bench_line.specs.TextLaws.{wrote-then}
 use borrow.Author.Needs.{needs}
 use Rattle.bench_line.proofs.text.named_decimal.Statement.{statement}

@@ -1,3 +1,4 @@
+-- After i turns the first i bytes of the text are written.
 use mathlib.Core.Path.{_≡_, refl, ap, _∙_}
 use Prim.Native.Nat.{_-_, _≤_}
 use native.Mathlib.Omega.{arith}

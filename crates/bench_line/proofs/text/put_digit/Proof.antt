@@ -1,3 +1,4 @@
+-- One byte is written: the glyph that the callee ensures.
 use mathlib.Core.Path.{ap}
 use Prim.Native.Nat.{ℕ}
 use native.Mathlib.Omega.{arith}

@@ -1,3 +1,4 @@
+-- Each arm by its line of `doSystem`: the callee's promise, or a changed state with PC moved on by 4.
 use mathlib.Core.Path.{refl, _∙_, subst}
 use borrow.Author.Needs.{needs}
 use Rattle.step.specs.Tasks.{doSystem, SystemFields}

@@ -1,3 +1,4 @@
+-- At each instruction, `exec` of it and `doTask` of its task compute to the same; the task's operands are in range as the instruction's are (`operands-of`).
 use native.Mathlib.Omega.{arith}
 use borrow.Author.Needs.{needs}
 use Rattle.machine.specs.Step.{exec}

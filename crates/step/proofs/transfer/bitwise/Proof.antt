@@ -1,3 +1,4 @@
+-- The proof goes the way of the definition: the base revealed, its address placed to read, and, where it does not only test, to write.
 use native.Mathlib.Omega.{arith}
 use Rattle.step.specs.StepLaws.{opened, leaked, placed, nowhere, on, fits, finds}
 use mathlib.Core.Path.{refl, sym, _∙_}
@@ -7,8 +8,6 @@ use Rattle.insn.specs.declared.Size.the-variants.{Byte}
 use Rattle.machine.specs.Step.{bitwise}
 use Rattle.step.proofs.transfer.bitwise.Statement.{statement}
 use Rattle.step.proofs.transfer.bitwise.Tie as tie
-
--- The proof goes the way of the definition: the base revealed, its address placed to read, and, where it does not only test, to write.
 
 reg-requires : tie.Need-reg-requires
 reg-requires c κs = search needs

@@ -1,3 +1,4 @@
+-- The bytes of two zero words compute to zeros.
 use borrow.Author.Needs.{needs}
 use Rattle.v850.specs.Block.{bytesOf}
 use Rattle.v850.proofs.block.clear_report.Statement.{statement}

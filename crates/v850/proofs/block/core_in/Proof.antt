@@ -1,3 +1,4 @@
+-- The fields are the definition's; the bytes are what the callee ensures.
 use borrow.Author.Needs.{needs}
 use Rattle.v850.proofs.block.core_in.Statement.{statement}
 use Rattle.v850.proofs.block.core_in.Tie as tie

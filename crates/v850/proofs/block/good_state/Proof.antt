@@ -1,3 +1,4 @@
+-- The tests of the definition, in its order.
 use borrow.Author.Needs.{needs}
 use Rattle.v850.specs.Block.{goodState}
 use Rattle.v850.proofs.block.good_state.Statement.{statement}

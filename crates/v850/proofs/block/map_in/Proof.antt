@@ -1,3 +1,4 @@
+-- After i turns the first i words of the map are there.
 use mathlib.Core.Path.{refl, _∙_}
 use Prim.Native.Nat.{_-_}
 use native.Mathlib.Omega.{arith}

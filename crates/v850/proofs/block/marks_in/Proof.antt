@@ -1,3 +1,4 @@
+-- After i turns the marks of the first i registers are there; the six cells behind them are stored one by one (`six-stored`).
 use mathlib.Core.Path.{refl, ap}
 use Prim.Native.Nat.{ℕ, _-_, _/_, _%_, _^_}
 use native.Mathlib.Omega.{arith}

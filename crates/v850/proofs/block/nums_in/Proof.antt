@@ -1,3 +1,4 @@
+-- After i turns the first i registers are there; the six cells behind them are stored one by one (`six-stored`).
 use mathlib.Core.Path.{refl}
 use Prim.Native.Nat.{_-_}
 use native.Mathlib.Omega.{arith}

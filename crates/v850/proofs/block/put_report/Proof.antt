@@ -1,3 +1,4 @@
+-- Two words over all eight bytes: nothing of the old report stays (`two-words`).
 use borrow.Author.Needs.{needs}
 use Rattle.v850.proofs.Fill.{two-words}
 use Rattle.v850.proofs.block.put_report.Statement.{statement}

@@ -1,3 +1,4 @@
+-- Four bytes stored one after the other, and what lies before and behind them stays (`four-stored`).
 use Prim.Native.Nat.{_*_}
 use native.Mathlib.Omega.{arith}
 use borrow.Author.Needs.{needs}

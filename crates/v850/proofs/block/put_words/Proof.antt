@@ -1,3 +1,4 @@
+-- After i turns the bytes of the first i words are there, and behind them the old ones.
 use mathlib.Core.Path.{_≡_, refl, _∙_}
 use mathlib.Core.List.{_++_}
 use Prim.Native.Nat.{_-_, _*_, _≤_}

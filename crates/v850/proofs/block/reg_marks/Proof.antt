@@ -1,3 +1,4 @@
+-- From the last register down: what is gathered is the bits from register i on, and fits 32 bits (`marks-turn`).
 use mathlib.Core.Path.{_≡_, sym, ap}
 use Prim.Native.Nat.{_≤_}
 use native.Mathlib.Omega.{arith}

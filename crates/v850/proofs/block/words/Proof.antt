@@ -1,3 +1,4 @@
+-- After i turns the first i words are there.
 use mathlib.Core.Path.{refl, ap, _∙_}
 use Prim.Native.Nat.{_+_, _-_}
 use native.Mathlib.Omega.{arith}

@@ -1,3 +1,4 @@
+-- The tests of the definition, in its order (`handed-by`): where one fails the part is empty, and past them all the region lies in memory (`region-fits`).
 use mathlib.Core.Path.{refl, sym, ap, _∙_}
 use mathlib.Core.List.{List}
 use Prim.Native.Nat.{ℕ}

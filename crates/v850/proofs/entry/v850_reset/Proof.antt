@@ -1,3 +1,4 @@
+-- The code's test is the definition's; the words are taken apart and put together by what the callees ensure.
 use mathlib.Core.Path.{ap, _∙_}
 use mathlib.Core.List.{List}
 use Prim.Native.Nat.{ℕ}
