@@ -8,8 +8,8 @@ use lib.ListN.{length, replicate}
 use Rattle.machine.specs.declared.Answer.the-variants.{Size}
 use Rattle.machine.specs.Regions.{READ, WRITE, FETCH}
 use Rattle.machine.specs.Run.{resetOpen, resetCells}
-use Rattle.v850.specs.Block.{bytesOf, wordAt, wordsOf, atPC, atPSW}
-use Rattle.v850.specs.Entry.{Left, left, REPORT, called}
+use Rattle.v850.specs.Block.{bytesOf, wordAt, atPC, atPSW, REPORT, atSteps, atPlace, wordsOf}
+use Rattle.v850.specs.Entry.{Left, left, called}
 use Rattle.bench_line.specs.Text.{ascii, hex, decimal}
 
 -- How many bytes of memory there are, and how many steps are run
@@ -31,15 +31,9 @@ wholeMap = 0 ∷ IMAGE ∷ 0 ∷ (READ + WRITE + FETCH) ∷ replicate 12 0
 abbrev pub startBlock : List ℕ
 startBlock = bytesOf (wordsOf resetOpen resetCells wholeMap)
 
--- The report before a run, and which of its words is which
+-- The report before a run
 abbrev pub noReport : List ℕ
 noReport = replicate REPORT 0
-
-abbrev pub atSteps : ℕ
-atSteps = 0
-
-abbrev pub atPlace : ℕ
-atPlace = 1
 
 -- What the run leaves. An input that is longer than the memory is not run: SIZE, with the reset state
 unfoldable pub ran : List ℕ → Left

@@ -6,11 +6,11 @@ use native.Mathlib.Omega.{arith}
 use borrow.Author.Tests.{lt-leb, le-leb}
 use lib.ListN.{length, drop, replicate, length-append, length-replicate}
 use lib.Seq.{sets-eq}
-use Rattle.v850.specs.Block.{wordAt, atPC, atPSW}
+use Rattle.v850.specs.Block.{wordAt, atPC, atPSW, atSteps, atPlace}
 use Rattle.v850.specs.Entry.{Left, called}
 use Rattle.bench_line.specs.Text.{DIGITS, Wrote}
 use Rattle.bench_line.specs.TextLaws.{hex-length, decimal-length}
-use Rattle.bench_line.specs.Line.{IMAGE, BUDGET, padded, startBlock, noReport, atSteps, atPlace, Leaves, ran, lineOf, line, LONGEST}
+use Rattle.bench_line.specs.Line.{IMAGE, BUDGET, padded, startBlock, noReport, Leaves, ran, lineOf, line, LONGEST}
 
 -- zeros but for the first ones are zeros
 abbrev zeros : ℕ → List ℕ

@@ -6,7 +6,7 @@ use native.Mathlib.Omega.{arith}
 use native.Mathlib.Numerals.{add-one}
 use lib.ListN.{length, getD, take, drop, set, length-set, length-drop, length-append, drop-of-length-le}
 use lib.Seq.{length-take-le, take-all, take-at, drop-at, drop-drop, take-suc, take-suc-set, getD-drop, sets, length-sets, sets-eq}
-use Rattle.v850.specs.Block.{bytesOfWord, bytesOf, wordAt, wordsFrom, bitsFrom, packBits}
+use Rattle.v850.specs.Block.{bytesOfWord, bytesOf, REPORT, reportOf, wordAt, wordsFrom, bitsFrom, packBits}
 use Rattle.v850.specs.PackLaws.{bytes-more, bytes-length}
 use Rattle.v850.specs.BlockLaws.{Marks, pack-more, pack-word}
 
@@ -99,8 +99,8 @@ bytes-done ws b₀ b i e h p =
     ∙ append-nil (bytesOf (take i ws)) ∙ ap bytesOf (take-all i ws (omega arith))
 
 -- a report of two words
-pub two-words : (b b′ b″ : List ℕ) (x y : ℕ) → length b ≡ 8 → b′ ≡ take 0 b ++ (bytesOfWord x ++ drop 4 b)
-    → b″ ≡ take 4 b′ ++ (bytesOfWord y ++ drop 8 b′) → b″ ≡ bytesOf (x ∷ y ∷ [])
+pub two-words : (b b′ b″ : List ℕ) (x y : ℕ) → length b ≡ REPORT → b′ ≡ take 0 b ++ (bytesOfWord x ++ drop 4 b)
+    → b″ ≡ take 4 b′ ++ (bytesOfWord y ++ drop 8 b′) → b″ ≡ reportOf x y
 unfolding bytesOf
 two-words b b′ b″ x y h p q =
     q ∙ ap (λ (s : List ℕ). take 4 s ++ (bytesOfWord y ++ drop 8 s)) p

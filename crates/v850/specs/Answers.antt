@@ -11,8 +11,8 @@ use Rattle.machine.specs.Marked.{both}
 use Rattle.machine.specs.Regions.{goodMap}
 use Rattle.machine.specs.Run.{number}
 use Rattle.machine.specs.Invariants.{run-answers}
-use Rattle.v850.specs.Block.{mapIn, coreIn, cellsIn, goodState}
-use Rattle.v850.specs.Entry.{Left, left, REPORT, goodSizes, wordsIn, called}
+use Rattle.v850.specs.Block.{REPORT, mapIn, coreIn, cellsIn, goodState}
+use Rattle.v850.specs.Entry.{Left, left, goodSizes, wordsIn, called}
 use Rattle.v850.specs.CallLaws.{refused-size, refused-map, refused-state}
 
 -- no number of a refused call

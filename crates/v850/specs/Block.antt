@@ -1,4 +1,4 @@
--- The block of 236 bytes: 59 little-endian words. Its layout is said here, once: taken apart, and put together.
+-- The block of 236 bytes, 59 little-endian words, and the report. Their layout is said here, once: taken apart, and put together.
 use mathlib.Core.Bool.{Bool, _&&_}
 use mathlib.Core.List.{List, [], _∷_, _++_}
 use Prim.Native.Nat.{ℕ, zero, suc, _+_, _*_, _/_, _%_, _^_}
@@ -71,6 +71,19 @@ atSysMarks = 42
 -- sixteen words
 abbrev pub atMap : ℕ
 atMap = 43
+
+-- The report: how many bytes there are, and which word is which
+abbrev pub REPORT : ℕ
+REPORT = 8
+
+abbrev pub atSteps : ℕ
+atSteps = 0
+
+abbrev pub atPlace : ℕ
+atPlace = 1
+
+abbrev pub reportOf : (steps place : ℕ) → List ℕ
+reportOf steps place = bytesOf (steps ∷ place ∷ [])
 
 -- byte k of a word
 abbrev pub byte : ℕ → ℕ → ℕ

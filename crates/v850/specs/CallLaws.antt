@@ -1,7 +1,7 @@
 -- How a call ends, test by test: what the code knows at each of its returns is what the definition says.
 use mathlib.Core.Path.{_≡_, sym, ap, _∙_, subst}
 use mathlib.Core.Bool.{true, false}
-use mathlib.Core.List.{List, [], _∷_}
+use mathlib.Core.List.{List}
 use Prim.Native.Nat.{ℕ, _≤_, _^_}
 use lib.ListN.{length, replicate}
 use borrow.Author.Tests.{eq-eqb, le-leb}
@@ -14,9 +14,9 @@ use Rattle.machine.specs.Run.{number, Ended, run}
 use Rattle.machine.specs.WellFormed.{WellFormed}
 use Rattle.machine.specs.Invariants.{run-well-formed}
 use Rattle.step.specs.Tasks.{Ready}
-use Rattle.v850.specs.Block.{bytesOf, BYTES, mapIn, coreIn, numsIn, marksIn, wordsOf, goodState}
+use Rattle.v850.specs.Block.{bytesOf, BYTES, REPORT, reportOf, mapIn, coreIn, numsIn, marksIn, wordsOf, goodState}
 use Rattle.v850.specs.PackLaws.{Below}
-use Rattle.v850.specs.Entry.{Left, left, MEMORY, REPORT, goodSizes, wordsIn, finished, called}
+use Rattle.v850.specs.Entry.{Left, left, MEMORY, goodSizes, wordsIn, finished, called}
 use Rattle.v850.specs.AlikeStarts.{Passes}
 use Rattle.v850.specs.SecrecyLaws.{formed}
 use Rattle.v850.specs.Secrecy.{called-passes, good-words, marks-long, memory-small}
@@ -59,6 +59,6 @@ module _ {block memory marks report : List ℕ} (p : Passes block memory marks r
         (run-well-formed budget 0 map core (both nums tags) (both memory marks) (starts-formed h) (record { small = k .at }) .0)
 
     pub ends-called : {last block′ report′ : List ℕ} {answer : ℕ} → last ≡ wordsOf (ran .core) (both nums′ tags′) map → block′ ≡ bytesOf last
-        → report′ ≡ bytesOf (ran .steps ∷ ran .place ∷ []) → answer ≡ number (ran .answer)
+        → report′ ≡ reportOf (ran .steps) (ran .place) → answer ≡ number (ran .answer)
         → _≡_ {A = Left} (record { answer = answer; block = block′; memory = memory′; marks = marks′; report = report′ }) (called block memory marks report budget)
     ends-called le be re ae = rw (ae, be, le, re) (ap (finished map) e ∙ rw (me, ce, ne, te, we) (sym (called-passes p budget)))

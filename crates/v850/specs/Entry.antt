@@ -1,6 +1,6 @@
 -- The entries, from bytes to bytes: the answer, and every byte of what was lent.
 use mathlib.Core.Bool.{Bool, cond, _&&_}
-use mathlib.Core.List.{List, [], _∷_}
+use mathlib.Core.List.{List, []}
 use Prim.Native.Nat.{ℕ}
 use lib.Dec.{eqb, leb}
 use lib.ListN.{length, take, drop, replicate}
@@ -9,7 +9,7 @@ use Rattle.machine.specs.declared.Answer.the-variants.{Done, Size, Map, State}
 use Rattle.machine.specs.Marked.{both}
 use Rattle.machine.specs.Regions.{goodMap, offset, size}
 use Rattle.machine.specs.Run.{number, Ended, run, resetOpen, resetCells}
-use Rattle.v850.specs.Block.{bytesOf, wordsFrom, BYTES, WORDS, mapIn, coreIn, cellsIn, wordsOf, goodState}
+use Rattle.v850.specs.Block.{bytesOf, wordsFrom, BYTES, WORDS, REPORT, reportOf, mapIn, coreIn, cellsIn, wordsOf, goodState}
 
 -- What a call leaves
 pub record Left : Type 0 where
@@ -26,9 +26,6 @@ left a b m k r = record { answer = number a; block = b; memory = m; marks = k; r
 abbrev pub MEMORY : ℕ
 MEMORY = 65536
 
-abbrev pub REPORT : ℕ
-REPORT = 8
-
 abbrev pub goodSizes : List ℕ → List ℕ → List ℕ → List ℕ → Bool
 goodSizes block memory marks report =
     eqb (length block) BYTES && (eqb (length report) REPORT && (leb (length memory) MEMORY && eqb (length marks) (length memory)))
@@ -39,7 +36,7 @@ wordsIn block = wordsFrom block 0 WORDS
 -- The end of a run, in bytes
 abbrev pub finished : List ℕ → Ended → Left
 finished map e =
-    left (e .ran .answer) (bytesOf (wordsOf (e .ran .core) (e .cells) map)) (e .mem .nums) (e .mem .marks) (bytesOf (e .ran .steps ∷ e .ran .place ∷ []))
+    left (e .ran .answer) (bytesOf (wordsOf (e .ran .core) (e .cells) map)) (e .mem .nums) (e .mem .marks) (reportOf (e .ran .steps) (e .ran .place))
 
 -- The run: SIZE writes nothing, MAP and STATE write a report of zeros and nothing else
 unfoldable pub called : List ℕ → List ℕ → List ℕ → List ℕ → ℕ → Left

@@ -6,7 +6,7 @@ use native.Mathlib.Omega.{arith}
 use lib.Pow.{shr-shr, shr-mod}
 use lib.ListN.{length, getD, take}
 use lib.Seq.{take-suc}
-use Rattle.v850.specs.Block.{bytesOfWord, bytesOf, wordAt, wordsFrom, bitsFrom, packBits}
+use Rattle.v850.specs.Block.{bytesOfWord, bytesOf, wordAt, wordsFrom, atSteps, atPlace, reportOf, bitsFrom, packBits}
 
 -- every number of a list is below n; past its end stand zeros
 pub record Below (n : ℕ) (l : List ℕ) : Type 0 where
@@ -74,6 +74,12 @@ unfolding bytesOf wordsFrom
 words-bytes [] h = refl
 words-bytes (w ∷ ws) h =
     ap₂ (λ (x : ℕ) (xs : List ℕ). x ∷ xs) (whole w (h .at 0)) (words-on _ _ _ _ (bytesOf ws) 0 (length ws) ∙ words-bytes ws (tail h))
+
+-- steps and place stand at their words of the report
+pub report-says : (steps place : ℕ) → steps < 2 ^ 32 → place < 2 ^ 32
+    → (wordAt (reportOf steps place) atSteps ≡ steps) × (wordAt (reportOf steps place) atPlace ≡ place)
+unfolding bytesOf
+report-says steps place h k = (whole steps h, whole place k)
 
 -- the word of four bytes has those bytes
 low : (x r : ℕ) → x < 2 ^ 8 → (x + 2 ^ 8 * r) % 2 ^ 8 ≡ x

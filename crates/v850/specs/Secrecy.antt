@@ -15,10 +15,10 @@ use Rattle.machine.specs.WellFormed.{WellFormed}
 use Rattle.machine.specs.Invariants.{run-well-formed}
 use Rattle.machine.specs.Alike.{bitCells, noBitCells, Alike, AlikeEnds}
 use Rattle.machine.specs.Secrecy.{secrecy}
-use Rattle.v850.specs.Block.{bytesOf, wordsFrom, BYTES, WORDS, mapIn, coreIn, cellsIn, wordsOf, goodState}
+use Rattle.v850.specs.Block.{bytesOf, wordsFrom, BYTES, WORDS, REPORT, mapIn, coreIn, cellsIn, wordsOf, goodState}
 use Rattle.v850.specs.PackLaws.{Below, words-length, words-bytes, words-below}
 use Rattle.v850.specs.BlockLaws.{map-long, map-words, apart-together}
-use Rattle.v850.specs.Entry.{MEMORY, REPORT, goodSizes, wordsIn, finished, called}
+use Rattle.v850.specs.Entry.{MEMORY, goodSizes, wordsIn, finished, called}
 use Rattle.v850.specs.AlikeStarts.{AlikeWords, AlikeMemories, Passes, AlikeLeft}
 use Rattle.v850.specs.SecrecyLaws.{Good, formed, together-good, map-same, core-same, cells-alike, words-alike}
 

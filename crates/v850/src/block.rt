@@ -1,12 +1,12 @@
 // The block of 236 bytes as 59 words: taken apart once, and put together once.
 ghost use mathlib.Core.Path.{_≡_};
-ghost use mathlib.Core.List.{[], _∷_, _++_};
+ghost use mathlib.Core.List.{_++_};
 ghost use Prim.Native.Nat.{_+_, _*_, _^_, _<_};
 ghost use lib.ListN.{length, take, drop, replicate};
 ghost use Rattle.machine.specs.Marked.{both};
 ghost use Rattle.machine.specs.Run.{resetOpen, resetCells};
 ghost use Rattle.machine.specs.WellFormed.{WellFormed};
-ghost use Rattle.v850.specs.Block.{bytesOf, bytesOfWord, wordAt, wordsFrom, BYTES, WORDS, atMap, byte, mapIn, coreIn, numsIn, marksIn, packBits, wordsOf, goodState};
+ghost use Rattle.v850.specs.Block.{bytesOf, bytesOfWord, wordAt, wordsFrom, BYTES, WORDS, atMap, REPORT, reportOf, byte, mapIn, coreIn, numsIn, marksIn, packBits, wordsOf, goodState};
 ghost use Rattle.v850.specs.BlockLaws.{Marks, sysMarks};
 use machine::Open;
 use state::psw;
@@ -308,8 +308,8 @@ pub fn put_words(block: &mut [u8], ws: &[u32; 59])
 
 // The report: steps and place.
 pub fn put_report(report: &mut [u8], steps: u32, place: u32)
-    requires { ⌜ length (now report) ≡ 8 ⌝ }
-    ensures { λ _. ⌜ now (report .exit) ≡ bytesOf (steps ∷ place ∷ []) ⌝ }
+    requires { ⌜ length (now report) ≡ REPORT ⌝ }
+    ensures { λ _. ⌜ now (report .exit) ≡ reportOf steps place ⌝ }
 {
     put_word(report, STEPS, steps);
     put_word(report, PLACE, place);
@@ -317,8 +317,8 @@ pub fn put_report(report: &mut [u8], steps: u32, place: u32)
 
 // The report of a refusal.
 pub fn clear_report(report: &mut [u8])
-    requires { ⌜ length (now report) ≡ 8 ⌝ }
-    ensures { λ _. ⌜ now (report .exit) ≡ replicate 8 0 ⌝ }
+    requires { ⌜ length (now report) ≡ REPORT ⌝ }
+    ensures { λ _. ⌜ now (report .exit) ≡ replicate REPORT 0 ⌝ }
 {
     put_report(report, 0, 0);
 }
