@@ -30,7 +30,7 @@ fn padded(input: &[u8]) -> [u8; IMAGE]
 }
 
 // The block of the reset state, with all of the memory at address 0 and all rights.
-pub fn start_block() -> [u8; 236]
+pub(crate) fn start_block() -> [u8; 236]
     ensures { λ r. ⌜ r ≡ startBlock ⌝ }
 {
     let mut block = [0u8; 236];
@@ -41,7 +41,7 @@ pub fn start_block() -> [u8; 236]
 }
 
 // Runs the input from the reset state. Input that is too long is not run.
-pub fn run(input: &[u8], block: &mut [u8], report: &mut [u8]) -> u32
+pub(crate) fn run(input: &[u8], block: &mut [u8], report: &mut [u8]) -> u32
     requires { ⌜ (now block ≡ startBlock) × (now report ≡ noReport) ⌝ }
     ensures { λ r. ⌜ Leaves (ran (now (input .entry))) r (now (block .exit)) (now (report .exit)) ⌝ }
 {

@@ -9,7 +9,7 @@ ghost use Rattle.bench_line.specs.Text.{glyph, hex, DIGITS, decimalIn, d
 const DIGITS: usize = 10;
 
 // A text as it stands.
-pub fn put(out: &mut [u8], at: usize, text: &[u8]) -> usize
+pub(crate) fn put(out: &mut [u8], at: usize, text: &[u8]) -> usize
     requires { ⌜ at + length (now text) ≤ length (now out) ⌝ }
     ensures { λ r. ⌜ Wrote (now (out .entry)) at (now (text .entry)) (now (out .exit)) r ⌝ }
 {
@@ -69,7 +69,7 @@ fn put_decimal(out: &mut [u8], at: usize, k: usize, n: u32) -> usize
 }
 
 // A name, and k digits of hex.
-pub fn named_hex(out: &mut [u8], at: usize, name: &[u8], k: usize, n: u32) -> usize
+pub(crate) fn named_hex(out: &mut [u8], at: usize, name: &[u8], k: usize, n: u32) -> usize
     requires { ⌜ at + length (now name) + k ≤ length (now out) ⌝ }
     ensures { λ r. ⌜ Wrote (now (out .entry)) at (now (name .entry) ++ hex k n) (now (out .exit)) r ⌝ }
 {
@@ -78,7 +78,7 @@ pub fn named_hex(out: &mut [u8], at: usize, name: &[u8], k: usize, n: u32) -> us
 }
 
 // A name, and a number in decimal.
-pub fn named_decimal(out: &mut [u8], at: usize, name: &[u8], n: u32) -> usize
+pub(crate) fn named_decimal(out: &mut [u8], at: usize, name: &[u8], n: u32) -> usize
     requires { ⌜ at + length (now name) + DIGITS ≤ length (now out) ⌝ }
     ensures { λ r. ⌜ Wrote (now (out .entry)) at (now (name .entry) ++ decimal n) (now (out .exit)) r ⌝ }
 {

@@ -86,7 +86,7 @@ pub fn word_at(b: &[u8], i: usize) -> u32
 }
 
 // All words of the block.
-pub fn words(block: &[u8]) -> [u32; 59]
+pub(crate) fn words(block: &[u8]) -> [u32; 59]
     requires { ⌜ length (now block) ≡ BYTES ⌝ }
     ensures { λ r. ⌜ r ≡ wordsFrom (now (block .entry)) 0 WORDS ⌝ }
 {
@@ -100,7 +100,7 @@ pub fn words(block: &[u8]) -> [u32; 59]
 }
 
 // STATE: the tests, in the order of the definition.
-pub fn good_state(ws: &[u32; 59]) -> bool
+pub(crate) fn good_state(ws: &[u32; 59]) -> bool
     ensures { λ r. ⌜ r ≡ goodState (now (ws .entry)) ⌝ }
 {
     let pc = ws[PC];
@@ -133,7 +133,7 @@ pub fn good_state(ws: &[u32; 59]) -> bool
 }
 
 // Taken apart: the map.
-pub fn map_in(ws: &[u32; 59]) -> [u32; 16]
+pub(crate) fn map_in(ws: &[u32; 59]) -> [u32; 16]
     requires { ⌜ length (now ws) ≡ WORDS ⌝ }
     ensures { λ r. ⌜ r ≡ mapIn (now (ws .entry)) ⌝ }
 {
@@ -147,7 +147,7 @@ pub fn map_in(ws: &[u32; 59]) -> [u32; 16]
 }
 
 // What is never marked.
-pub fn core_in(ws: &[u32; 59]) -> Open
+pub(crate) fn core_in(ws: &[u32; 59]) -> Open
     ensures { λ r. ⌜ r ≡ coreIn (now (ws .entry)) ⌝ }
 {
     let psw = ws[PSW];
@@ -165,7 +165,7 @@ pub fn core_in(ws: &[u32; 59]) -> Open
 }
 
 // The numbers of the cells.
-pub fn nums_in(ws: &[u32; 59]) -> [u32; 38]
+pub(crate) fn nums_in(ws: &[u32; 59]) -> [u32; 38]
     requires { ⌜ length (now ws) ≡ WORDS ⌝ }
     ensures { λ r. ⌜ r ≡ numsIn (now (ws .entry)) ⌝ }
 {
@@ -185,7 +185,7 @@ pub fn nums_in(ws: &[u32; 59]) -> [u32; 38]
 }
 
 // Their marks.
-pub fn marks_in(ws: &[u32; 59]) -> [u8; 38]
+pub(crate) fn marks_in(ws: &[u32; 59]) -> [u8; 38]
     ensures { λ r. ⌜ r ≡ marksIn (now (ws .entry)) ⌝ }
 {
     let regs = ws[REG_MARKS];
@@ -245,7 +245,7 @@ fn put_map(ws: &mut [u32; 59], map: &[u32; 16])
 }
 
 // All words.
-pub fn words_of(o: Open, cells: &[u32; 38], tags: &[u8; 38], map: &[u32; 16]) -> [u32; 59]
+pub(crate) fn words_of(o: Open, cells: &[u32; 38], tags: &[u8; 38], map: &[u32; 16]) -> [u32; 59]
     requires { ⌜ WellFormed o (both (now cells) (now tags)) × (length (now map) ≡ 16) ⌝ }
     ensures { λ r. ⌜ r ≡ wordsOf o (both (now (cells .entry)) (now (tags .entry))) (now (map .entry)) ⌝ }
 {
@@ -272,7 +272,7 @@ pub fn words_of(o: Open, cells: &[u32; 38], tags: &[u8; 38], map: &[u32; 16]) ->
 
 // The words after reset: 0, but for PSW and the map. Made by themselves, they leave the words of a run to the run alone, whose code the
 // compiler then makes in one piece.
-pub fn reset_words(map: &[u32; 16]) -> [u32; 59]
+pub(crate) fn reset_words(map: &[u32; 16]) -> [u32; 59]
     requires { ⌜ length (now map) ≡ 16 ⌝ }
     ensures { λ r. ⌜ r ≡ wordsOf resetOpen resetCells (now (map .entry)) ⌝ }
 {
@@ -295,7 +295,7 @@ fn put_word(b: &mut [u8], i: usize, w: u32)
 }
 
 // All words, as bytes.
-pub fn put_words(block: &mut [u8], ws: &[u32; 59])
+pub(crate) fn put_words(block: &mut [u8], ws: &[u32; 59])
     requires { ⌜ (length (now block) ≡ BYTES) × (length (now ws) ≡ WORDS) ⌝ }
     ensures { λ _. ⌜ now (block .exit) ≡ bytesOf (now (ws .entry)) ⌝ }
 {
@@ -307,7 +307,7 @@ pub fn put_words(block: &mut [u8], ws: &[u32; 59])
 }
 
 // The report: steps and place.
-pub fn put_report(report: &mut [u8], steps: u32, place: u32)
+pub(crate) fn put_report(report: &mut [u8], steps: u32, place: u32)
     requires { ⌜ length (now report) ≡ REPORT ⌝ }
     ensures { λ _. ⌜ now (report .exit) ≡ reportOf steps place ⌝ }
 {
@@ -316,7 +316,7 @@ pub fn put_report(report: &mut [u8], steps: u32, place: u32)
 }
 
 // The report of a refusal.
-pub fn clear_report(report: &mut [u8])
+pub(crate) fn clear_report(report: &mut [u8])
     requires { ⌜ length (now report) ≡ REPORT ⌝ }
     ensures { λ _. ⌜ now (report .exit) ≡ replicate REPORT 0 ⌝ }
 {
