@@ -2,13 +2,14 @@
 // contract can say what is read or written.
 ghost use lib.ListN.{length};
 ghost use Rattle.bench_io.specs.Reading.{Within};
+use bench_line::IMAGE;
 use bench_line::LONGEST;
 use libc::STDERR_FILENO;
 use libc::STDIN_FILENO;
 use libc::STDOUT_FILENO;
 
 // One byte more than an image has, so that a longer input is told from a full one.
-const ROOM: usize = 4097;
+const ROOM: usize = IMAGE + 1;
 
 // How many bytes were read, or that they could not be.
 enum Input {

@@ -3,16 +3,14 @@ ghost use mathlib.Core.Path.{_≡_};
 ghost use Prim.Native.Nat.{_≤_};
 ghost use lib.ListN.{length};
 ghost use Rattle.bench_line.specs.Line.{IMAGE, padded, startBlock, noReport, Leaves, ran};
+use crate::IMAGE;
 use crate::text;
 use v850::block;
+use v850::block::BYTES;
 use v850::entry;
-
-const IMAGE: usize = 4096;
+use v850::entry::SIZE;
 
 const BUDGET: u32 = 1000;
-
-// The answer to an input that is too long.
-const SIZE: u32 = 1;
 
 // The two bytes of the map that are not 0, in region 0: the length's second one, and the rights.
 const LENGTH_1: usize = 4 * block::MAP + 5;
@@ -30,10 +28,10 @@ fn padded(input: &[u8]) -> [u8; IMAGE]
 }
 
 // The block of the reset state, with all of the memory at address 0 and all rights.
-pub(crate) fn start_block() -> [u8; 236]
+pub(crate) fn start_block() -> [u8; BYTES]
     ensures { λ r. ⌜ r ≡ startBlock ⌝ }
 {
-    let mut block = [0u8; 236];
+    let mut block = [0u8; BYTES];
     block[LENGTH_1] = 0x10;
     block[RIGHTS] = 7;
     entry::v850_reset(&mut block);

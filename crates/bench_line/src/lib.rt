@@ -6,6 +6,9 @@ ghost use Rattle.bench_line.specs.Text.{Wrote};
 ghost use Rattle.bench_line.specs.Line.{lineOf, line};
 use v850::block;
 
+// How many bytes of memory there are, and of input at most.
+pub const IMAGE: usize = 4096;
+
 // Room for the longest line.
 pub const LONGEST: usize = 65;
 
@@ -14,7 +17,7 @@ pub fn line(input: &[u8], out: &mut [u8; LONGEST]) -> usize
     ensures { λ r. ⌜ Wrote (now (out .entry)) 0 (line (now (input .entry))) (now (out .exit)) r ⌝ }
 {
     let mut state = image::start_block();
-    let mut report = [0u8; 8];
+    let mut report = [0u8; block::REPORT];
     let answer = image::run(input, &mut state, &mut report);
     let steps = block::word_at(&report, block::STEPS);
     let pc = block::word_at(&state, block::PC);

@@ -11,7 +11,9 @@ ghost use Rattle.v850.specs.BlockLaws.{Marks, sysMarks};
 use machine::Open;
 use state::psw;
 
-// Which word is which. Words 0 to 31 are r0 to r31.
+// How many bytes there are, and which word is which. Words 0 to 31 are r0 to r31.
+pub const BYTES: usize = 236;
+
 pub const PC: usize = 32;
 
 pub const PSW: usize = 33;
@@ -36,7 +38,9 @@ const SYS_MARKS: usize = 42;
 
 pub const MAP: usize = 43;
 
-// And of the report.
+// The same of the report.
+pub const REPORT: usize = 8;
+
 pub const STEPS: usize = 0;
 
 pub const PLACE: usize = 1;

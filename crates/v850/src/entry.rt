@@ -4,38 +4,36 @@ ghost use Rattle.machine.specs.Run.{number};
 ghost use Rattle.v850.specs.Entry.{called, reset, view};
 ghost use Rattle.v850.specs.Handed.{viewFrom, onBy};
 use crate::block;
+use crate::block::BYTES;
+use crate::block::REPORT;
 use machine::Answer;
 use state::map_check;
 use state::regions;
 use step::run;
 
-// The lengths of block and report, and the largest memory.
-const BYTES: usize = 236;
-
-const REPORT: usize = 8;
-
+// The largest memory.
 const MEMORY: usize = 65536;
 
 // The answers by number.
-const DONE: u32 = 0;
+pub const DONE: u32 = 0;
 
-const SIZE: u32 = 1;
+pub const SIZE: u32 = 1;
 
-const MAP: u32 = 2;
+pub const MAP: u32 = 2;
 
-const STATE: u32 = 3;
+pub const STATE: u32 = 3;
 
-const ASLEEP: u32 = 4;
+pub const ASLEEP: u32 = 4;
 
-const NO_FETCH: u32 = 5;
+pub const NO_FETCH: u32 = 5;
 
-const UNDEFINED: u32 = 6;
+pub const UNDEFINED: u32 = 6;
 
-const LEAK: u32 = 7;
+pub const LEAK: u32 = 7;
 
-const NO_READ: u32 = 8;
+pub const NO_READ: u32 = 8;
 
-const NO_WRITE: u32 = 9;
+pub const NO_WRITE: u32 = 9;
 
 fn number(a: Answer) -> u32
     ensures { λ r. ⌜ r ≡ number a ⌝ }
