@@ -2,7 +2,7 @@
 use mathlib.Core.Path.{_≡_}
 use mathlib.Core.Bool.{cond}
 use mathlib.Core.List.{List, [], _∷_, _++_}
-use Prim.Native.Nat.{ℕ, _+_, _-_}
+use Prim.Native.Nat.{ℕ, _+_, _-_, _*_}
 use lib.Dec.{leb}
 use lib.ListN.{length, replicate}
 use Rattle.machine.specs.declared.Answer.the-variants.{Size}
@@ -25,7 +25,7 @@ padded input = input ++ replicate (IMAGE - length input) 0
 
 -- The map: a region of base 0, all of the memory, offset 0 and all rights; and three unused ones
 abbrev pub wholeMap : List ℕ
-wholeMap = 0 ∷ IMAGE ∷ 0 ∷ (READ + WRITE + FETCH) ∷ replicate 12 0
+wholeMap = 0 ∷ IMAGE ∷ 0 ∷ (READ + WRITE + FETCH) ∷ replicate (3 * 4) 0
 
 -- The block of the reset state
 abbrev pub startBlock : List ℕ

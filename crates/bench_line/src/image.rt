@@ -12,10 +12,13 @@ use v850::entry::SIZE;
 
 const BUDGET: u32 = 1000;
 
-// The two bytes of the map that are not 0, in region 0: the length's second one, and the rights.
-const LENGTH_1: usize = 4 * block::MAP + 5;
+// The two bytes of the map that are not 0, in region 0: the second one of the length, and the first of the rights.
+const LENGTH_1: usize = 4 * (block::MAP + 1) + 1;
 
-const RIGHTS: usize = 4 * block::MAP + 12;
+const RIGHTS: usize = 4 * (block::MAP + 3);
+
+// To read, to write and to fetch.
+const ALL_RIGHTS: u8 = 1 + 2 + 4;
 
 // The input, and zeros behind it.
 fn padded(input: &[u8]) -> [u8; IMAGE]
@@ -32,8 +35,8 @@ pub(crate) fn start_block() -> [u8; BYTES]
     ensures { λ r. ⌜ r ≡ startBlock ⌝ }
 {
     let mut block = [0u8; BYTES];
-    block[LENGTH_1] = 0x10;
-    block[RIGHTS] = 7;
+    block[LENGTH_1] = (IMAGE / 0x100) as u8;
+    block[RIGHTS] = ALL_RIGHTS;
     entry::v850_reset(&mut block);
     block
 }

@@ -11,8 +11,12 @@ ghost use Rattle.v850.specs.BlockLaws.{Marks, sysMarks};
 use machine::Open;
 use state::psw;
 
-// How many bytes there are, and which word is which. Words 0 to 31 are r0 to r31.
+// How many bytes and words there are, and which word is which. Words 0 to 31 are r0 to r31.
 pub const BYTES: usize = 236;
+
+const WORDS: usize = BYTES / 4;
+
+const REGS: usize = 32;
 
 pub const PC: usize = 32;
 
@@ -38,6 +42,8 @@ const SYS_MARKS: usize = 42;
 
 pub const MAP: usize = 43;
 
+const MAP_WORDS: usize = WORDS - MAP;
+
 // The same of the report.
 pub const REPORT: usize = 8;
 
@@ -45,7 +51,9 @@ pub const STEPS: usize = 0;
 
 pub const PLACE: usize = 1;
 
-// Which cell is which. Cells 0 to 31 are r0 to r31.
+// How many cells there are, and which is which. Cells 0 to 31 are r0 to r31.
+const CELLS: usize = 38;
+
 const CELL_EIPC: usize = 32;
 
 const CELL_EIPSW: usize = 33;
@@ -90,13 +98,13 @@ pub fn word_at(b: &[u8], i: usize) -> u32
 }
 
 // All words of the block.
-pub(crate) fn words(block: &[u8]) -> [u32; 59]
+pub(crate) fn words(block: &[u8]) -> [u32; WORDS]
     requires { ⌜ length (now block) ≡ BYTES ⌝ }
     ensures { λ r. ⌜ r ≡ wordsFrom (now (block .entry)) 0 WORDS ⌝ }
 {
-    let mut ws = [0u32; 59];
+    let mut ws = [0u32; WORDS];
     let mut i: usize = 0;
-    while i < 59 {
+    while i < WORDS {
         ws[i] = word_at(block, i);
         i += 1;
     }
@@ -104,7 +112,7 @@ pub(crate) fn words(block: &[u8]) -> [u32; 59]
 }
 
 // STATE: the tests, in the order of the definition.
-pub(crate) fn good_state(ws: &[u32; 59]) -> bool
+pub(crate) fn good_state(ws: &[u32; WORDS]) -> bool
     ensures { λ r. ⌜ r ≡ goodState (now (ws .entry)) ⌝ }
 {
     let pc = ws[PC];
@@ -137,13 +145,13 @@ pub(crate) fn good_state(ws: &[u32; 59]) -> bool
 }
 
 // Taken apart: the map.
-pub(crate) fn map_in(ws: &[u32; 59]) -> [u32; 16]
+pub(crate) fn map_in(ws: &[u32; WORDS]) -> [u32; MAP_WORDS]
     requires { ⌜ length (now ws) ≡ WORDS ⌝ }
     ensures { λ r. ⌜ r ≡ mapIn (now (ws .entry)) ⌝ }
 {
-    let mut map = [0u32; 16];
+    let mut map = [0u32; MAP_WORDS];
     let mut i: usize = 0;
-    while i < 16 {
+    while i < MAP_WORDS {
         map[i] = ws[MAP + i];
         i += 1;
     }
@@ -151,7 +159,7 @@ pub(crate) fn map_in(ws: &[u32; 59]) -> [u32; 16]
 }
 
 // What is never marked.
-pub(crate) fn core_in(ws: &[u32; 59]) -> Open
+pub(crate) fn core_in(ws: &[u32; WORDS]) -> Open
     ensures { λ r. ⌜ r ≡ coreIn (now (ws .entry)) ⌝ }
 {
     let psw = ws[PSW];
@@ -169,13 +177,13 @@ pub(crate) fn core_in(ws: &[u32; 59]) -> Open
 }
 
 // The numbers of the cells.
-pub(crate) fn nums_in(ws: &[u32; 59]) -> [u32; 38]
+pub(crate) fn nums_in(ws: &[u32; WORDS]) -> [u32; CELLS]
     requires { ⌜ length (now ws) ≡ WORDS ⌝ }
     ensures { λ r. ⌜ r ≡ numsIn (now (ws .entry)) ⌝ }
 {
-    let mut cells = [0u32; 38];
+    let mut cells = [0u32; CELLS];
     let mut i: usize = 0;
-    while i < 32 {
+    while i < REGS {
         cells[i] = ws[i];
         i += 1;
     }
@@ -189,14 +197,14 @@ pub(crate) fn nums_in(ws: &[u32; 59]) -> [u32; 38]
 }
 
 // Their marks.
-pub(crate) fn marks_in(ws: &[u32; 59]) -> [u8; 38]
+pub(crate) fn marks_in(ws: &[u32; WORDS]) -> [u8; CELLS]
     ensures { λ r. ⌜ r ≡ marksIn (now (ws .entry)) ⌝ }
 {
     let regs = ws[REG_MARKS];
     let marks = ws[SYS_MARKS];
-    let mut tags = [0u8; 38];
+    let mut tags = [0u8; CELLS];
     let mut i: usize = 0;
-    while i < 32 {
+    while i < REGS {
         tags[i] = ((regs >> i) % 2) as u8;
         i += 1;
     }
@@ -210,12 +218,12 @@ pub(crate) fn marks_in(ws: &[u32; 59]) -> [u8; 38]
 }
 
 // The word of the registers' marks.
-fn reg_marks(tags: &[u8; 38]) -> u32
+fn reg_marks(tags: &[u8; CELLS]) -> u32
     requires { ⌜ Marks (now tags) ⌝ }
     ensures { λ r. ⌜ r ≡ packBits (take 32 (now (tags .entry))) ⌝ }
 {
     let mut r: u32 = 0;
-    let mut i: usize = 32;
+    let mut i: usize = REGS;
     while 0 < i {
         i -= 1;
         r = wide(tags[i]) + 2 * r;
@@ -224,7 +232,7 @@ fn reg_marks(tags: &[u8; 38]) -> u32
 }
 
 // The word of the system registers' marks.
-fn sys_marks(tags: &[u8; 38]) -> u32
+fn sys_marks(tags: &[u8; CELLS]) -> u32
     requires { ⌜ Marks (now tags) ⌝ }
     ensures { λ r. ⌜ r ≡ sysMarks (now (tags .entry)) ⌝ }
 {
@@ -237,25 +245,30 @@ fn sys_marks(tags: &[u8; 38]) -> u32
 }
 
 // The map, at the end of the words.
-fn put_map(ws: &mut [u32; 59], map: &[u32; 16])
+fn put_map(ws: &mut [u32; WORDS], map: &[u32; MAP_WORDS])
     requires { ⌜ (length (now ws) ≡ WORDS) × (length (now map) ≡ 16) ⌝ }
     ensures { λ _. ⌜ now (ws .exit) ≡ take atMap (now (ws .entry)) ++ now (map .entry) ⌝ }
 {
     let mut k: usize = 0;
-    while k < 16 {
+    while k < MAP_WORDS {
         ws[MAP + k] = map[k];
         k += 1;
     }
 }
 
 // All words.
-pub(crate) fn words_of(o: Open, cells: &[u32; 38], tags: &[u8; 38], map: &[u32; 16]) -> [u32; 59]
+pub(crate) fn words_of(
+    o: Open,
+    cells: &[u32; CELLS],
+    tags: &[u8; CELLS],
+    map: &[u32; MAP_WORDS],
+) -> [u32; WORDS]
     requires { ⌜ WellFormed o (both (now cells) (now tags)) × (length (now map) ≡ 16) ⌝ }
     ensures { λ r. ⌜ r ≡ wordsOf o (both (now (cells .entry)) (now (tags .entry))) (now (map .entry)) ⌝ }
 {
-    let mut ws = [0u32; 59];
+    let mut ws = [0u32; WORDS];
     let mut i: usize = 0;
-    while i < 32 {
+    while i < REGS {
         ws[i] = cells[i];
         i += 1;
     }
@@ -276,11 +289,11 @@ pub(crate) fn words_of(o: Open, cells: &[u32; 38], tags: &[u8; 38], map: &[u32; 
 
 // The words after reset: 0, but for PSW and the map. Made by themselves, they leave the words of a run to the run alone, whose code the
 // compiler then makes in one piece.
-pub(crate) fn reset_words(map: &[u32; 16]) -> [u32; 59]
+pub(crate) fn reset_words(map: &[u32; MAP_WORDS]) -> [u32; WORDS]
     requires { ⌜ length (now map) ≡ 16 ⌝ }
     ensures { λ r. ⌜ r ≡ wordsOf resetOpen resetCells (now (map .entry)) ⌝ }
 {
-    let mut ws = [0u32; 59];
+    let mut ws = [0u32; WORDS];
     ws[PSW] = RESET_PSW;
     put_map(&mut ws, map);
     ws
@@ -299,12 +312,12 @@ fn put_word(b: &mut [u8], i: usize, w: u32)
 }
 
 // All words, as bytes.
-pub(crate) fn put_words(block: &mut [u8], ws: &[u32; 59])
+pub(crate) fn put_words(block: &mut [u8], ws: &[u32; WORDS])
     requires { ⌜ (length (now block) ≡ BYTES) × (length (now ws) ≡ WORDS) ⌝ }
     ensures { λ _. ⌜ now (block .exit) ≡ bytesOf (now (ws .entry)) ⌝ }
 {
     let mut i: usize = 0;
-    while i < 59 {
+    while i < WORDS {
         put_word(block, i, ws[i]);
         i += 1;
     }

@@ -6,6 +6,9 @@ use borrow.Author.Needs.{needs}
 use Rattle.bench_line.proofs.image.start_block.Statement.{statement}
 use Rattle.bench_line.proofs.image.start_block.Tie as tie
 
+cast-block : tie.Need-cast-block
+cast-block c = search needs
+
 array-write-block : tie.Need-array-write-block
 array-write-block c = search needs
 
@@ -26,6 +29,7 @@ pub start-block-spec : {M : Type 1} → statement M
 start-block-spec =
     tie.close
     (tie.spec
+    cast-block
     array-write-block
     array-write-block-2
     slice-aggregate-v850-reset
