@@ -1,5 +1,6 @@
 pub mod Text
 pub mod TextLaws
+pub mod Digits
 pub mod Line
 pub mod LineLaws
 pub mod Samples
