@@ -9,6 +9,7 @@ ghost use Rattle.machine.specs.WellFormed.{WellFormed};
 ghost use Rattle.v850.specs.Block.{bytesOf, bytesOfWord, wordAt, wordsFrom, BYTES, WORDS, atMap, REPORT, reportOf, byte, mapIn, coreIn, numsIn, marksIn, packBits, wordsOf, goodState};
 ghost use Rattle.v850.specs.BlockLaws.{Marks, sysMarks};
 use machine::Open;
+use state::CELLS;
 use state::psw;
 
 // How many bytes and words there are, and which word is which. Words 0 to 31 are r0 to r31.
@@ -51,9 +52,7 @@ pub const STEPS: usize = 0;
 
 pub const PLACE: usize = 1;
 
-// How many cells there are, and which is which. Cells 0 to 31 are r0 to r31.
-const CELLS: usize = 38;
-
+// Which cell is which. Cells 0 to 31 are r0 to r31.
 const CELL_EIPC: usize = 32;
 
 const CELL_EIPSW: usize = 33;
