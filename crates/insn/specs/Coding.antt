@@ -206,8 +206,8 @@ abbrev pub jarlHalf : ℕ → ℕ → ℕ
 jarlHalf reg2 bits = half reg2 (0b111100 + bits / 2 ^ 21) (bits / 2 ^ 16 % 32)
 
 unfoldable pub halfwords : Insn → Encoded
-halfwords (Jmp reg1) = One (half 0 0b000011 reg1)
 halfwords (Reg op reg1 reg2) = One (half reg2 (regCode op) reg1)
+halfwords (Jmp reg1) = One (half 0 0b000011 reg1)
 halfwords (Imm5 op imm reg2) = One (half reg2 (imm5Code op) (imm % 32))
 halfwords (Sld Byte disp reg2) = short 0b011000 disp reg2
 halfwords (Sst Byte disp reg2) = short 0b011100 disp reg2
@@ -266,8 +266,8 @@ isLongDisp Half d = isSigned 16 d && multiple 2 d
 isLongDisp Word d = isSigned 16 d && multiple 2 d
 
 unfoldable pub inRange : Insn → Bool
-inRange (Jmp reg1) = isReg reg1
 inRange (Reg op reg1 reg2) = isReg reg1 && isReg reg2
+inRange (Jmp reg1) = isReg reg1
 inRange (Imm5 op imm reg2) = cond (imm5Shifts op) (isUnsigned 5 imm) (isSigned 5 imm) && isReg reg2
 inRange (Sld size disp reg2) = isShortDisp size disp && isReg reg2
 inRange (Sst size disp reg2) = isShortDisp size disp && isReg reg2

@@ -269,10 +269,10 @@ module _ (mem : Size → ℕ → ℕ → ℕ → Insn) (op : ℕ) (h : (48 ≤ o
 
 spells : (i : Insn) → inRange i ≡ true → Spells (halfwords i) i
 unfolding halfwords inRange decodeFields decodeExtended
-spells (Jmp a) v = spells-one 0 0b000011 a (omega facts) (λ w. refl)
 spells (Reg op a b) v =
     let r = both (isReg a) (isReg b) v in
     spells-one b (regCode op) a (omega (facts, reg-ops op .0)) (reg-ops op .1 b a)
+spells (Jmp a) v = spells-one 0 0b000011 a (omega facts) (λ w. refl)
 spells (Imm5 op n b) v =
     let r = both (isWord (2 ^ 4) (imm5Shifts op) n) (isReg b) v in
     spells-one b (imm5Code op) (n % 32) (omega (facts, imm5-ops op .0))
