@@ -1,14 +1,12 @@
 -- The arms of decoding: what a number of the opcode, or one of a range, stands for; then what the second halfword of opcode 111111 does.
 -- Each is found by computing at the number. An operand n is given by an equation, so that whoever computed it can say how.
 use mathlib.Core.Path.{_≡_, refl}
-use mathlib.Core.Bool.{Bool, true, false, cond, _&&_}
+use mathlib.Core.Bool.{cond}
 use mathlib.Core.List.{List, [], _∷_}
-use Prim.Native.Nat.{ℕ, zero, suc, _+_, _*_, _/_, _%_, _^_, _≤_, _<_}
-use native.Mathlib.Nat.{zero-add}
-use native.Mathlib.Omega.{arith}
+use Prim.Native.Nat.{ℕ, _+_, _*_, _/_, _%_, _^_, _≤_, _<_}
 use borrow.Author.Tests.{le-leb, lt-leb, eq-eqb, ne-eqb}
 use lib.Dec.{eqb}
-use Rattle.insn.specs.Coding.{regOp, regCode, imm5Op, imm5Code, imm5, imm16Op, imm16Code, imm16, disp7, disp9, when, decodeExtended, decodeFields}
+use Rattle.insn.specs.Coding.{regOp, regCode, imm5Op, imm5Code, imm5, imm16Op, imm16Code, imm16, disp7, disp9, decodeExtended, decodeFields}
 use Rattle.insn.specs.Within.{within}
 use Rattle.insn.specs.declared.RegOp.{RegOp}
 use Rattle.insn.specs.declared.RegOp.the-variants.{Mov, Not, Divh, Satsubr, Satsub, Satadd, Mulh, Or, Xor, And, Tst, Subr, Sub, Add, Cmp}
@@ -17,8 +15,7 @@ use Rattle.insn.specs.declared.Imm5Op.the-variants.{Mov5, Satadd5, Add5,
 use Rattle.insn.specs.declared.Imm16Op.{Imm16Op}
 use Rattle.insn.specs.declared.Imm16Op.the-variants.{Addi, Movea, Movhi, Satsubi, Ori, Xori, Andi, Mulhi}
 use Rattle.insn.specs.declared.Size.the-variants.{Byte, Half, Word}
-use Rattle.insn.specs.declared.Insn.{Insn}
-use Rattle.insn.specs.declared.Insn.the-variants.{Reg, Imm5, Sld, Sst, Bcond, Imm16, Di}
+use Rattle.insn.specs.declared.Insn.the-variants.{Reg, Imm5, Sld, Sst, Bcond, Imm16}
 use Rattle.insn.specs.declared.Decoded.{Decoded}
 use Rattle.insn.specs.declared.Decoded.the-variants.{Valid, Illegal, Undefined}
 
@@ -139,17 +136,3 @@ module _ (reg2 reg1 w : ℕ) where
         ne-eqb _ _ (n .0 .1),
         ne-eqb _ _ (n .1),
       )
-
--- two fields are both 0 exactly if their sum is
-pub both-zero : (a b : ℕ) → eqb (a + b) 0 ≡ (eqb a 0 && eqb b 0)
-both-zero zero b = rw zero-add
-both-zero (suc a) b = rw (ne-eqb (suc a + b) 0 (λ h. omega arith), ne-eqb (suc a) 0 (λ h. omega arith))
-
--- DI, if reg2 is not EI's
-both-of : (a b : Bool) (i : Insn) → when (a && b) i ≡ cond a (when b i) Undefined
-both-of true b i = refl
-both-of false b i = refl
-
-pub at-di : (reg2 reg1 : ℕ) → (reg2 ≡ 16 → ⊥) → when (eqb (reg2 + reg1) 0) Di ≡ decodeExtended reg2 reg1 0x0160
-unfolding decodeExtended
-at-di reg2 reg1 h = rw (both-zero, ne-eqb _ _ h) (both-of (eqb reg2 0) (eqb reg1 0) Di)

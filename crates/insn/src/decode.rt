@@ -77,13 +77,7 @@ pub fn operation(reg2: u32, opcode: u32, reg1: u32) -> Decoded
         0b000000 => reg(RegOp::Mov, reg1, reg2),
         0b000001 => reg(RegOp::Not, reg1, reg2),
         0b000010 => reg(RegOp::Divh, reg1, reg2),
-        0b000011 => {
-            if reg2 == 0 {
-                Decoded::Valid(Insn::Jmp { reg1 })
-            } else {
-                Decoded::Undefined
-            }
-        }
+        0b000011 => when(reg2 == 0, Insn::Jmp { reg1 }),
         0b000100 => reg(RegOp::Satsubr, reg1, reg2),
         0b000101 => reg(RegOp::Satsub, reg1, reg2),
         0b000110 => reg(RegOp::Satadd, reg1, reg2),
@@ -241,13 +235,13 @@ fn extended(reg2: u32, reg1: u32, w: u32) -> Decoded
         0x00A0 => shift(ShiftOp::Sar, reg1, reg2),
         0x00C0 => shift(ShiftOp::Shl, reg1, reg2),
         0x0100 => when(reg2 == 0, Insn::Trap { vector: reg1 }),
-        0x0120 => when(reg2 + reg1 == 0, Insn::Halt),
-        0x0140 => when(reg2 + reg1 == 0, Insn::Reti),
+        0x0120 => when(reg2 == 0 && reg1 == 0, Insn::Halt),
+        0x0140 => when(reg2 == 0 && reg1 == 0, Insn::Reti),
         0x0160 => {
-            if reg2 == 16 {
-                when(reg1 == 0, Insn::Ei)
+            if reg2 == 0 {
+                when(reg1 == 0, Insn::Di)
             } else {
-                when(reg2 + reg1 == 0, Insn::Di)
+                when(reg2 == 16 && reg1 == 0, Insn::Ei)
             }
         }
         _ => Decoded::Undefined,

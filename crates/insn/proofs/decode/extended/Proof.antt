@@ -1,7 +1,9 @@
--- By the second halfword: at each of the ten numbers the definition computes, and the arm's test decides what is left of it.
+-- By the second halfword: at each of the ten numbers the definition computes, and the arm's tests decide what is left of it.
 use mathlib.Core.Path.{_∙_}
+use mathlib.Core.Logic.{⊎-elim}
+use borrow.Author.Tests.{eq-eqb, ne-eqb}
 use Rattle.insn.specs.Coding.{decodeExtended}
-use Rattle.insn.specs.Arms.{at-illegal, at-none, both-zero, at-di}
+use Rattle.insn.specs.Arms.{at-illegal, at-none}
 use borrow.Author.Needs.{needs}
 use Rattle.insn.proofs.decode.extended.Statement.{statement}
 use Rattle.insn.proofs.decode.extended.Tie as tie
@@ -33,23 +35,14 @@ shift-requires-3 c κs = search needs
 when-requires-4 : tie.Need-when-requires-4
 when-requires-4 c κs = search needs
 
-add-when : tie.Need-add-when
-add-when c = search needs
-
 when-requires-5 : tie.Need-when-requires-5
 when-requires-5 c κs = search needs
-
-add-when-2 : tie.Need-add-when-2
-add-when-2 c = search needs
 
 when-requires-6 : tie.Need-when-requires-6
 when-requires-6 c κs = search needs
 
 when-requires-7 : tie.Need-when-requires-7
 when-requires-7 c κs = search needs
-
-add-when-3 : tie.Need-add-when-3
-add-when-3 c = search needs
 
 when-requires-8 : tie.Need-when-requires-8
 when-requires-8 c κs = search needs
@@ -84,18 +77,28 @@ returns-8 c = rw (c .before .match .keys7) (c .when4 .ensures)
 
 returns-9 : tie.Need-returns-9
 unfolding decodeExtended
-returns-9 c = rw (c .before .match .keys8, ← both-zero _ _) (c .when5 .ensures)
+returns-9 c =
+    let e = c .when5 .ensures in
+    ⊎-elim (λ p. rw (c .before .before .match .keys8, eq-eqb _ _ (p .0 .taken)) (e ∙ rw (p .1)))
+    (λ p. rw (c .before .before .match .keys8, ne-eqb _ _ (p .0 .left)) (e ∙ rw (p .1 ∙ ne-eqb _ _ (p .0 .left)))) (c .before .if2 .came)
 
 returns-10 : tie.Need-returns-10
 unfolding decodeExtended
-returns-10 c = rw (c .before .match .keys9, ← both-zero _ _) (c .when6 .ensures)
+returns-10 c =
+    let e = c .when6 .ensures in
+    ⊎-elim (λ p. rw (c .before .before .match .keys9, eq-eqb _ _ (p .0 .taken)) (e ∙ rw (p .1)))
+    (λ p. rw (c .before .before .match .keys9, ne-eqb _ _ (p .0 .left)) (e ∙ rw (p .1 ∙ ne-eqb _ _ (p .0 .left)))) (c .before .if3 .came)
 
 returns-11 : tie.Need-returns-11
 unfolding decodeExtended
-returns-11 c = rw (c .before .before .match .keys10, c .before .if2 .taken) (c .when7 .ensures)
+returns-11 c = rw (c .before .before .match .keys10, eq-eqb _ _ (c .before .if4 .taken)) (c .when7 .ensures)
 
 returns-12 : tie.Need-returns-12
-returns-12 c = c .when8 .ensures ∙ rw (c .before .before .match .keys10) (at-di _ _ (c .before .if2 .left))
+unfolding decodeExtended
+returns-12 c =
+    let e = c .when8 .ensures in
+    ⊎-elim (λ p. rw (c .before .before .before .match .keys10, ne-eqb _ _ (c .before .before .if4 .left), eq-eqb _ _ (p .0 .taken)) (e ∙ rw (p .1)))
+    (λ p. rw (c .before .before .before .match .keys10, ne-eqb _ _ (c .before .before .if4 .left), ne-eqb _ _ (p .0 .left)) (e ∙ rw (p .1 ∙ ne-eqb _ _ (p .0 .left)))) (c .before .if5 .came)
 
 returns-13 : tie.Need-returns-13
 returns-13 c = at-none _ _ _ (c .before .if1 .left) (c .match .rest)
@@ -113,12 +116,9 @@ extended-spec =
     shift-requires-2
     shift-requires-3
     when-requires-4
-    add-when
     when-requires-5
-    add-when-2
     when-requires-6
     when-requires-7
-    add-when-3
     when-requires-8
     returns-2
     returns-3

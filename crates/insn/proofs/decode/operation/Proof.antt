@@ -1,8 +1,7 @@
--- 000000-010111: each arm is one of the laws in `Arms`; no opcode is left for the last one.
+-- 000000-010111: each arm is one of the laws in `Arms`, or computes; no opcode is left for the last one.
 use mathlib.Core.Path.{_∙_}
 use Prim.Native.Nat.{zero-le}
 use native.Mathlib.Omega.{arith}
-use borrow.Author.Tests.{eq-eqb, ne-eqb}
 use borrow.Author.Needs.{needs}
 use Rattle.insn.specs.Coding.{regCode, imm5Code, decodeFields}
 use Rattle.insn.specs.Within.{past}
@@ -20,6 +19,9 @@ reg-requires-2 c κs = search needs
 
 reg-requires-3 : tie.Need-reg-requires-3
 reg-requires-3 c κs = search needs
+
+when-requires : tie.Need-when-requires
+when-requires c κs = search needs
 
 reg-requires-4 : tie.Need-reg-requires-4
 reg-requires-4 c κs = search needs
@@ -119,94 +121,90 @@ returns-3 c = λ w. c .reg3 .ensures ∙ at-reg _ _ w Divh (c .before .match .ke
 
 returns-4 : tie.Need-returns-4
 unfolding decodeFields
-returns-4 c = λ w. rw (c .before .match .keys4, eq-eqb _ _ (c .if1 .taken))
+returns-4 c = λ w. rw (c .before .match .keys4) (c .when .ensures)
 
 returns-5 : tie.Need-returns-5
-unfolding decodeFields
-returns-5 c = λ w. rw (c .before .match .keys4, ne-eqb _ _ (c .if1 .left))
+unfolding regCode
+returns-5 c = λ w. c .reg4 .ensures ∙ at-reg _ _ w Satsubr (c .before .match .keys5)
 
 returns-6 : tie.Need-returns-6
 unfolding regCode
-returns-6 c = λ w. c .reg4 .ensures ∙ at-reg _ _ w Satsubr (c .before .match .keys5)
+returns-6 c = λ w. c .reg5 .ensures ∙ at-reg _ _ w Satsub (c .before .match .keys6)
 
 returns-7 : tie.Need-returns-7
 unfolding regCode
-returns-7 c = λ w. c .reg5 .ensures ∙ at-reg _ _ w Satsub (c .before .match .keys6)
+returns-7 c = λ w. c .reg6 .ensures ∙ at-reg _ _ w Satadd (c .before .match .keys7)
 
 returns-8 : tie.Need-returns-8
 unfolding regCode
-returns-8 c = λ w. c .reg6 .ensures ∙ at-reg _ _ w Satadd (c .before .match .keys7)
+returns-8 c = λ w. c .reg7 .ensures ∙ at-reg _ _ w Mulh (c .before .match .keys8)
 
 returns-9 : tie.Need-returns-9
 unfolding regCode
-returns-9 c = λ w. c .reg7 .ensures ∙ at-reg _ _ w Mulh (c .before .match .keys8)
+returns-9 c = λ w. c .reg8 .ensures ∙ at-reg _ _ w Or (c .before .match .keys9)
 
 returns-10 : tie.Need-returns-10
 unfolding regCode
-returns-10 c = λ w. c .reg8 .ensures ∙ at-reg _ _ w Or (c .before .match .keys9)
+returns-10 c = λ w. c .reg9 .ensures ∙ at-reg _ _ w Xor (c .before .match .keys10)
 
 returns-11 : tie.Need-returns-11
 unfolding regCode
-returns-11 c = λ w. c .reg9 .ensures ∙ at-reg _ _ w Xor (c .before .match .keys10)
+returns-11 c = λ w. c .reg10 .ensures ∙ at-reg _ _ w And (c .before .match .keys11)
 
 returns-12 : tie.Need-returns-12
 unfolding regCode
-returns-12 c = λ w. c .reg10 .ensures ∙ at-reg _ _ w And (c .before .match .keys11)
+returns-12 c = λ w. c .reg11 .ensures ∙ at-reg _ _ w Tst (c .before .match .keys12)
 
 returns-13 : tie.Need-returns-13
 unfolding regCode
-returns-13 c = λ w. c .reg11 .ensures ∙ at-reg _ _ w Tst (c .before .match .keys12)
+returns-13 c = λ w. c .reg12 .ensures ∙ at-reg _ _ w Subr (c .before .match .keys13)
 
 returns-14 : tie.Need-returns-14
 unfolding regCode
-returns-14 c = λ w. c .reg12 .ensures ∙ at-reg _ _ w Subr (c .before .match .keys13)
+returns-14 c = λ w. c .reg13 .ensures ∙ at-reg _ _ w Sub (c .before .match .keys14)
 
 returns-15 : tie.Need-returns-15
 unfolding regCode
-returns-15 c = λ w. c .reg13 .ensures ∙ at-reg _ _ w Sub (c .before .match .keys14)
+returns-15 c = λ w. c .reg14 .ensures ∙ at-reg _ _ w Add (c .before .match .keys15)
 
 returns-16 : tie.Need-returns-16
 unfolding regCode
-returns-16 c = λ w. c .reg14 .ensures ∙ at-reg _ _ w Add (c .before .match .keys15)
+returns-16 c = λ w. c .reg15 .ensures ∙ at-reg _ _ w Cmp (c .before .match .keys16)
 
 returns-17 : tie.Need-returns-17
-unfolding regCode
-returns-17 c = λ w. c .reg15 .ensures ∙ at-reg _ _ w Cmp (c .before .match .keys16)
+unfolding imm5Code
+returns-17 c = λ w. c .imm5 .ensures ∙ at-imm5 _ _ w Mov5 (c .before .before .match .keys17) (c .before .sign5 .ensures)
 
 returns-18 : tie.Need-returns-18
 unfolding imm5Code
-returns-18 c = λ w. c .imm5 .ensures ∙ at-imm5 _ _ w Mov5 (c .before .before .match .keys17) (c .before .sign5 .ensures)
+returns-18 c = λ w. c .imm52 .ensures ∙ at-imm5 _ _ w Satadd5 (c .before .before .match .keys18) (c .before .sign52 .ensures)
 
 returns-19 : tie.Need-returns-19
 unfolding imm5Code
-returns-19 c = λ w. c .imm52 .ensures ∙ at-imm5 _ _ w Satadd5 (c .before .before .match .keys18) (c .before .sign52 .ensures)
+returns-19 c = λ w. c .imm53 .ensures ∙ at-imm5 _ _ w Add5 (c .before .before .match .keys19) (c .before .sign53 .ensures)
 
 returns-20 : tie.Need-returns-20
 unfolding imm5Code
-returns-20 c = λ w. c .imm53 .ensures ∙ at-imm5 _ _ w Add5 (c .before .before .match .keys19) (c .before .sign53 .ensures)
+returns-20 c = λ w. c .imm54 .ensures ∙ at-imm5 _ _ w Cmp5 (c .before .before .match .keys20) (c .before .sign54 .ensures)
 
 returns-21 : tie.Need-returns-21
 unfolding imm5Code
-returns-21 c = λ w. c .imm54 .ensures ∙ at-imm5 _ _ w Cmp5 (c .before .before .match .keys20) (c .before .sign54 .ensures)
+returns-21 c = λ w. c .imm55 .ensures ∙ at-imm5 _ _ w Shr5 (c .before .before .match .keys21) (c .before .zero5 .ensures)
 
 returns-22 : tie.Need-returns-22
 unfolding imm5Code
-returns-22 c = λ w. c .imm55 .ensures ∙ at-imm5 _ _ w Shr5 (c .before .before .match .keys21) (c .before .zero5 .ensures)
+returns-22 c = λ w. c .imm56 .ensures ∙ at-imm5 _ _ w Sar5 (c .before .before .match .keys22) (c .before .zero52 .ensures)
 
 returns-23 : tie.Need-returns-23
 unfolding imm5Code
-returns-23 c = λ w. c .imm56 .ensures ∙ at-imm5 _ _ w Sar5 (c .before .before .match .keys22) (c .before .zero52 .ensures)
+returns-23 c = λ w. c .imm57 .ensures ∙ at-imm5 _ _ w Shl5 (c .before .before .match .keys23) (c .before .zero53 .ensures)
 
 returns-24 : tie.Need-returns-24
 unfolding imm5Code
-returns-24 c = λ w. c .imm57 .ensures ∙ at-imm5 _ _ w Shl5 (c .before .before .match .keys23) (c .before .zero53 .ensures)
+returns-24 c = λ w. c .imm58 .ensures ∙ at-imm5 _ _ w Mulh5 (c .before .before .match .keys24) (c .before .sign55 .ensures)
 
 returns-25 : tie.Need-returns-25
-unfolding imm5Code
-returns-25 c = λ w. c .imm58 .ensures ∙ at-imm5 _ _ w Mulh5 (c .before .before .match .keys24) (c .before .sign55 .ensures)
-
-returns-26 : tie.Need-returns-26
-returns-26 c = absurd (omega (arith, past _ 0 24 (c .match .rest) zero-le, c .before .pre .1))
+returns-25 c = absurd (omega (arith, past _ 0 24 (c .match .rest) zero-le, c .before .pre .1))
 
 pub operation-spec : {M : Type 1} → statement M
 operation-spec =
@@ -215,6 +213,7 @@ operation-spec =
     reg-requires
     reg-requires-2
     reg-requires-3
+    when-requires
     reg-requires-4
     reg-requires-5
     reg-requires-6
@@ -267,5 +266,4 @@ operation-spec =
     returns-22
     returns-23
     returns-24
-    returns-25
-    returns-26)
+    returns-25)
