@@ -7,7 +7,7 @@ use native.Mathlib.Omega.{arith}
 use lib.Dec.{eqb, ltb, leb}
 use borrow.Author.Tests.{lt-ltb, ltb-true, ltb-false, le-leb, lt-leb, eqb-true}
 use Rattle.word.specs.Word.{W}
-use Rattle.insn.specs.Coding.{isUnsigned, multiple, loads}
+use Rattle.insn.specs.Coding.{isUnsigned, multiple, loads, stores}
 
 and-true : (b : Bool) → b && true ≡ b
 and-true true = refl
@@ -43,6 +43,9 @@ even half n e h = eqb-true (n % 2) 0 (right-of (ltb n half || (leb (W - half) n 
 
 pub loads-below : (n : ℕ) {r : Bool} → r ≡ loads n → r ≡ true → n < 6
 loads-below n e h = ⊎-elim (λ a. omega (arith, ltb-true n 4 a)) (λ a. omega (arith, eqb-true n 5 a)) (one-of (ltb n 4) (eqb n 5) (sym e ∙ h))
+
+pub stores-below : (n : ℕ) {r : Bool} → r ≡ stores n → r ≡ true → n < 6
+stores-below n e h = ltb-true n 6 (sym e ∙ h)
 
 -- a field of five bits has nothing in the opcode
 pub no-high : (n : ℕ) → n % 32 / 32 ≡ 0

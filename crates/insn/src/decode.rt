@@ -3,7 +3,7 @@ ghost use mathlib.Core.Path.{_≡_};
 ghost use mathlib.Core.Bool.{true, false};
 ghost use Prim.Native.Nat.{ℕ, _%_, _≤_, _<_};
 ghost use lib.Dec.{eqb};
-ghost use Rattle.insn.specs.Coding.{reg2Of, opcodeOf, reg1Of, long, bitOp, loads, when, disp7, disp9, disp22, decodeExtended, decodeFields, decode};
+ghost use Rattle.insn.specs.Coding.{reg2Of, opcodeOf, reg1Of, long, bitOp, loads, stores, when, disp7, disp9, disp22, decodeExtended, decodeFields, decode};
 use crate::BitOp;
 use crate::Decoded;
 use crate::Imm5Op;
@@ -230,7 +230,7 @@ fn extended(reg2: u32, reg1: u32, w: u32) -> Decoded
                 regid: reg2,
             },
         ),
-        0x0040 => when(reg1 < 6, Insn::Stsr { regid: reg1, reg2 }),
+        0x0040 => when(stores(reg1), Insn::Stsr { regid: reg1, reg2 }),
         0x0080 => shift(ShiftOp::Shr, reg1, reg2),
         0x00A0 => shift(ShiftOp::Sar, reg1, reg2),
         0x00C0 => shift(ShiftOp::Shl, reg1, reg2),
@@ -356,9 +356,15 @@ fn bit_op(n: u32) -> BitOp
     }
 }
 
-// System numbers that LDSR takes.
+// System numbers that LDSR takes, and STSR.
 pub(crate) fn loads(regid: u32) -> bool
     ensures { λ r. ⌜ r ≡ loads regid ⌝ }
 {
     regid < 4 || regid == 5
+}
+
+pub(crate) fn stores(regid: u32) -> bool
+    ensures { λ r. ⌜ r ≡ stores regid ⌝ }
+{
+    regid < 6
 }

@@ -244,7 +244,7 @@ fn ldsr(reg2: u32, regid: u32) -> Encoded
 fn stsr(regid: u32, reg2: u32) -> Encoded
     ensures { λ r. ⌜ r ≡ encode (Insn.Stsr regid reg2) ⌝ }
 {
-    if 6 <= regid {
+    if !decode::stores(regid) {
         return Encoded::Field;
     }
     if 32 <= reg2 {

@@ -20,6 +20,9 @@ loads-requires c κs = search needs
 when-requires-2 : tie.Need-when-requires-2
 when-requires-2 c κs = search needs
 
+stores-requires : tie.Need-stores-requires
+stores-requires c κs = search needs
+
 when-requires-3 : tie.Need-when-requires-3
 when-requires-3 c κs = search needs
 
@@ -57,7 +60,7 @@ returns-3 c = rw (c .before .before .match .keys2) (c .when2 .ensures ∙ rw (c 
 
 returns-4 : tie.Need-returns-4
 unfolding decodeExtended
-returns-4 c = rw (c .before .match .keys3) (c .when3 .ensures)
+returns-4 c = rw (c .before .before .match .keys3) (c .when3 .ensures ∙ rw (c .before .stores .ensures))
 
 returns-5 : tie.Need-returns-5
 unfolding decodeExtended
@@ -111,6 +114,7 @@ extended-spec =
     when-requires
     loads-requires
     when-requires-2
+    stores-requires
     when-requires-3
     shift-requires
     shift-requires-2
