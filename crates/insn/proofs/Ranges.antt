@@ -1,5 +1,5 @@
 -- The tests of encoding: what a test that held says of an operand, and how the code's tests agree with the definition's.
-use mathlib.Core.Path.{_≡_, refl, sym, _∙_}
+use mathlib.Core.Path.{_≡_, refl, sym, subst, _∙_}
 use mathlib.Core.Bool.{Bool, true, false, _&&_, _||_, false≢true}
 use mathlib.Core.Logic.{_⊎_, ⊎-elim, inl, inr}
 use Prim.Native.Nat.{ℕ, _-_, _/_, _%_, _≤_, _<_, _^_}
@@ -7,7 +7,9 @@ use native.Mathlib.Omega.{arith}
 use lib.Dec.{eqb, ltb, leb}
 use borrow.Author.Tests.{lt-ltb, ltb-true, ltb-false, le-leb, lt-leb, eqb-true}
 use Rattle.word.specs.Word.{W}
-use Rattle.insn.specs.Coding.{isUnsigned, multiple, loads, stores}
+use Rattle.insn.specs.declared.Size.{Size}
+use Rattle.insn.specs.declared.Size.the-variants.{Byte, Half, Word}
+use Rattle.insn.specs.Coding.{loads, stores, isSigned, isUnsigned, multiple, isShortDisp, isLongDisp}
 
 and-true : (b : Bool) → b && true ≡ b
 and-true true = refl
@@ -34,12 +36,24 @@ one-of : (a b : Bool) → a || b ≡ true → (a ≡ true) ⊎ (b ≡ true)
 one-of true b e = inl refl
 one-of false b e = inr e
 
--- what a test that held says of an operand
-pub below-256 : (unit n : ℕ) {r : Bool} → r ≡ (isUnsigned 8 n && multiple unit n) → r ≡ true → n < 256
-below-256 unit n e h = ltb-true n 256 (left-of (isUnsigned 8 n) (multiple unit n) (sym e ∙ h))
+-- what a short displacement is below
+abbrev pub shortEnd : Size → ℕ
+shortEnd Byte = 2 ^ 7
+shortEnd Half = 2 ^ 8
+shortEnd Word = 2 ^ 8
 
-pub even : (half n : ℕ) {r : Bool} → r ≡ ((ltb n half || (leb (W - half) n && ltb n W)) && multiple 2 n) → r ≡ true → n % 2 ≡ 0
-even half n e h = eqb-true (n % 2) 0 (right-of (ltb n half || (leb (W - half) n && ltb n W)) (multiple 2 n) (sym e ∙ h))
+-- what a test that held says of an operand
+pub short-below : (s : Size) (n : ℕ) {size : Size} {r : Bool} → r ≡ isShortDisp size n → size ≡ s → r ≡ true → n < shortEnd s
+short-below s n e q h = below s (subst (λ size. isShortDisp size n ≡ true) q (sym e ∙ h))
+  where
+    below : (s : Size) → isShortDisp s n ≡ true → n < shortEnd s
+    below Byte t = ltb-true n (2 ^ 7) t
+    below Half t = ltb-true n (2 ^ 8) (left-of (isUnsigned 8 n) (multiple 2 n) t)
+    below Word t = ltb-true n (2 ^ 8) (left-of (isUnsigned 8 n) (multiple 4 n) t)
+
+pub even : (n : ℕ) {size : Size} {r : Bool} → r ≡ isLongDisp size n → size ≡ Word → r ≡ true → n % 2 ≡ 0
+even n e q h =
+    eqb-true (n % 2) 0 (right-of (isSigned 16 n) (multiple 2 n) (subst (λ size. isLongDisp size n ≡ true) q (sym e ∙ h)))
 
 pub loads-below : (n : ℕ) {r : Bool} → r ≡ loads n → r ≡ true → n < 6
 loads-below n e h = ⊎-elim (λ a. omega (arith, ltb-true n 4 a)) (λ a. omega (arith, eqb-true n 5 a)) (one-of (ltb n 4) (eqb n 5) (sym e ∙ h))

@@ -1,11 +1,9 @@
 // From instructions to halfwords.
 ghost use mathlib.Core.Path.{_≡_};
-ghost use mathlib.Core.Bool.{true, cond, _&&_, _||_};
+ghost use mathlib.Core.Bool.{true, cond, _&&_};
 ghost use mathlib.Core.List.{[]};
-ghost use Prim.Native.Nat.{_-_, _%_, _<_};
-ghost use lib.Dec.{ltb, leb};
-ghost use Rattle.word.specs.Word.{W};
-ghost use Rattle.insn.specs.Coding.{half, regCode, bitCode, short, twoOf, isReg, isUnsigned, multiple, inRange, halfwords, encode, DONE, FIELD, number, listed};
+ghost use Prim.Native.Nat.{_≤_, _<_};
+ghost use Rattle.insn.specs.Coding.{half, regCode, bitCode, short, twoOf, isReg, isSigned, isShortDisp, isLongDisp, inRange, halfwords, encode, DONE, FIELD, number, listed};
 use crate::BitOp;
 use crate::Encoded;
 use crate::Imm5Op;
@@ -88,7 +86,7 @@ fn jmp(reg1: u32) -> Encoded
 fn imm5(op: Imm5Op, imm: u32, reg2: u32) -> Encoded
     ensures { λ r. ⌜ r ≡ encode (Insn.Imm5 op imm reg2) ⌝ }
 {
-    let signed = is_signed(16, imm);
+    let signed = is_signed(5, imm);
     let plain = imm < 32;
     let field = imm % 32;
     match op {
@@ -106,25 +104,22 @@ fn imm5(op: Imm5Op, imm: u32, reg2: u32) -> Encoded
 fn sld(size: Size, disp: u32, reg2: u32) -> Encoded
     ensures { λ r. ⌜ r ≡ encode (Insn.Sld size disp reg2) ⌝ }
 {
+    let ok = is_short_disp(size, disp);
     match size {
-        Size::Byte => short(0b011000, disp < 128, disp, reg2),
-        Size::Half => short(0b100000, is_unsigned_multiple(2, disp), disp / 2, reg2),
-        Size::Word => short(0b101000, is_unsigned_multiple(4, disp), disp / 4 * 2, reg2),
+        Size::Byte => short(0b011000, ok, disp, reg2),
+        Size::Half => short(0b100000, ok, disp / 2, reg2),
+        Size::Word => short(0b101000, ok, disp / 4 * 2, reg2),
     }
 }
 
 fn sst(size: Size, disp: u32, reg2: u32) -> Encoded
     ensures { λ r. ⌜ r ≡ encode (Insn.Sst size disp reg2) ⌝ }
 {
+    let ok = is_short_disp(size, disp);
     match size {
-        Size::Byte => short(0b011100, disp < 128, disp, reg2),
-        Size::Half => short(0b100100, is_unsigned_multiple(2, disp), disp / 2, reg2),
-        Size::Word => short(
-            0b101000,
-            is_unsigned_multiple(4, disp),
-            disp / 4 * 2 + 1,
-            reg2,
-        ),
+        Size::Byte => short(0b011100, ok, disp, reg2),
+        Size::Half => short(0b100100, ok, disp / 2, reg2),
+        Size::Word => short(0b101000, ok, disp / 4 * 2 + 1, reg2),
     }
 }
 
@@ -134,7 +129,10 @@ fn bcond(cond: u32, disp: u32) -> Encoded
     if 16 <= cond {
         return Encoded::Field;
     }
-    if !is_signed_even(256, disp) {
+    if !is_signed(9, disp) {
+        return Encoded::Field;
+    }
+    if disp % 2 != 0 {
         return Encoded::Field;
     }
     let bits = disp % 512;
@@ -144,7 +142,7 @@ fn bcond(cond: u32, disp: u32) -> Encoded
 fn imm16(op: Imm16Op, imm: u32, reg1: u32, reg2: u32) -> Encoded
     ensures { λ r. ⌜ r ≡ encode (Insn.Imm16 op imm reg1 reg2) ⌝ }
 {
-    let signed = is_signed(32768, imm);
+    let signed = is_signed(16, imm);
     let plain = imm < 65536;
     let w = imm % 65536;
     match op {
@@ -162,29 +160,31 @@ fn imm16(op: Imm16Op, imm: u32, reg1: u32, reg2: u32) -> Encoded
 fn ld(size: Size, disp: u32, reg1: u32, reg2: u32) -> Encoded
     ensures { λ r. ⌜ r ≡ encode (Insn.Ld size disp reg1 reg2) ⌝ }
 {
+    let ok = is_long_disp(size, disp);
     let w = disp % 65536;
     match size {
-        Size::Byte => long(0b111000, is_signed(32768, disp), w, reg1, reg2),
-        Size::Half => long(0b111001, is_signed_even(32768, disp), w, reg1, reg2),
-        Size::Word => long(0b111001, is_signed_even(32768, disp), w + 1, reg1, reg2),
+        Size::Byte => long(0b111000, ok, w, reg1, reg2),
+        Size::Half => long(0b111001, ok, w, reg1, reg2),
+        Size::Word => long(0b111001, ok, w + 1, reg1, reg2),
     }
 }
 
 fn st(size: Size, disp: u32, reg1: u32, reg2: u32) -> Encoded
     ensures { λ r. ⌜ r ≡ encode (Insn.St size disp reg1 reg2) ⌝ }
 {
+    let ok = is_long_disp(size, disp);
     let w = disp % 65536;
     match size {
-        Size::Byte => long(0b111010, is_signed(32768, disp), w, reg1, reg2),
-        Size::Half => long(0b111011, is_signed_even(32768, disp), w, reg1, reg2),
-        Size::Word => long(0b111011, is_signed_even(32768, disp), w + 1, reg1, reg2),
+        Size::Byte => long(0b111010, ok, w, reg1, reg2),
+        Size::Half => long(0b111011, ok, w, reg1, reg2),
+        Size::Word => long(0b111011, ok, w + 1, reg1, reg2),
     }
 }
 
 fn jarl(disp: u32, reg2: u32) -> Encoded
     ensures { λ r. ⌜ r ≡ encode (Insn.Jarl disp reg2) ⌝ }
 {
-    if !is_signed(2097152, disp) {
+    if !is_signed(22, disp) {
         return Encoded::Field;
     }
     if disp % 2 != 0 {
@@ -208,7 +208,7 @@ fn bit_insn(op: BitOp, bit: u32, disp: u32, reg1: u32) -> Encoded
     if 8 <= bit {
         return Encoded::Field;
     }
-    if !is_signed(32768, disp) {
+    if !is_signed(16, disp) {
         return Encoded::Field;
     }
     if 32 <= reg1 {
@@ -319,26 +319,34 @@ fn two(reg2: u32, opcode: u32, reg1: u32, w: u32) -> Encoded
     Encoded::Two(half(reg2, opcode, reg1), w as u16)
 }
 
-// A word from -half to half - 1, in two's complement.
-fn is_signed(half: u32, n: u32) -> bool
-    ensures { λ r. ⌜ r ≡ (ltb n half || (leb (W - half) n && ltb n W)) ⌝ }
+// A word that k bits hold by its sign. A negative one is above the complement of the sign's bit.
+fn is_signed(k: u32, n: u32) -> bool
+    requires { ⌜ (0 < k) × (k ≤ 32) ⌝ }
+    ensures { λ r. ⌜ r ≡ isSigned k n ⌝ }
 {
+    let half = 1u32 << (k - 1);
     n < half || !half < n
 }
 
-// The same, and even.
-fn is_signed_even(half: u32, n: u32) -> bool
-    ensures { λ r. ⌜ r ≡ ((ltb n half || (leb (W - half) n && ltb n W)) && multiple 2 n) ⌝ }
+// Displacements of SLD and SST, and of LD and ST: low bits that are not stored are 0.
+fn is_short_disp(size: Size, disp: u32) -> bool
+    ensures { λ r. ⌜ r ≡ isShortDisp size disp ⌝ }
 {
-    is_signed(half, n) && n % 2 == 0
+    match size {
+        Size::Byte => disp < 128,
+        Size::Half => disp < 256 && disp % 2 == 0,
+        Size::Word => disp < 256 && disp % 4 == 0,
+    }
 }
 
-// A number of 8 bits, and a multiple.
-fn is_unsigned_multiple(unit: u32, n: u32) -> bool
-    requires { ⌜ 0 < unit ⌝ }
-    ensures { λ r. ⌜ r ≡ (isUnsigned 8 n && multiple unit n) ⌝ }
+fn is_long_disp(size: Size, disp: u32) -> bool
+    ensures { λ r. ⌜ r ≡ isLongDisp size disp ⌝ }
 {
-    n < 256 && n % unit == 0
+    match size {
+        Size::Byte => is_signed(16, disp),
+        Size::Half => is_signed(16, disp) && disp % 2 == 0,
+        Size::Word => is_signed(16, disp) && disp % 2 == 0,
+    }
 }
 
 fn reg_code(op: RegOp) -> u32

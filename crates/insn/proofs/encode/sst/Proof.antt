@@ -2,33 +2,32 @@
 use mathlib.Core.Path.{_∙_}
 use native.Mathlib.Omega.{arith}
 use lib.Dec.{lit<}
+use Rattle.insn.specs.declared.Size.the-variants.{Byte, Half, Word}
 use Rattle.insn.specs.Coding.{inRange, halfwords, encode}
-use Rattle.insn.proofs.Ranges.{below-256}
+use Rattle.insn.proofs.Ranges.{short-below}
 use borrow.Author.Needs.{needs}
 use Rattle.insn.proofs.encode.sst.Statement.{statement}
 use Rattle.insn.proofs.encode.sst.Tie as tie
+
+is-short-disp-requires : tie.Need-is-short-disp-requires
+is-short-disp-requires c κs = search needs
 
 enum-told : tie.Need-enum-told
 enum-told c = search needs
 
 short-requires : tie.Need-short-requires
-short-requires c κs = search needs
+short-requires c κs =
+    (lit< tt, λ h. omega (arith, short-below Byte (c .before .before .before .args .disp) (c .before .before .is-short-disp .ensures) (c .enum-told .given .1) h))
 
 enum-told-2 : tie.Need-enum-told-2
 enum-told-2 c = search needs
 
-is-unsigned-multiple-requires : tie.Need-is-unsigned-multiple-requires
-is-unsigned-multiple-requires c κs = search needs
-
 short-requires-2 : tie.Need-short-requires-2
 short-requires-2 c κs =
-    (lit< tt, λ h. omega (arith, below-256 2 (c .before .before .before .args .disp) (c .is-unsigned-multiple .ensures) h))
+    (lit< tt, λ h. omega (arith, short-below Half (c .before .before .before .args .disp) (c .before .before .is-short-disp .ensures) (c .enum-told2 .given .1) h))
 
 enum-told-3 : tie.Need-enum-told-3
 enum-told-3 c = search needs
-
-is-unsigned-multiple-requires-2 : tie.Need-is-unsigned-multiple-requires-2
-is-unsigned-multiple-requires-2 c κs = search needs
 
 mul-short : tie.Need-mul-short
 mul-short c = search needs
@@ -38,31 +37,33 @@ add-short c = search needs
 
 short-requires-3 : tie.Need-short-requires-3
 short-requires-3 c κs =
-    (lit< tt, λ h. omega (arith, below-256 4 (c .before .before .before .args .disp) (c .is-unsigned-multiple2 .ensures) h))
+    (lit< tt, λ h. omega (arith, short-below Word (c .before .before .before .args .disp) (c .before .before .is-short-disp .ensures) (c .enum-told3 .given .1) h))
 
 returns : tie.Need-returns
 unfolding encode inRange halfwords
-returns c = rw (c .before .enum-told .given .1) (c .short .ensures)
+returns c =
+    rw (c .before .enum-told .given .1) (c .short .ensures ∙ rw (c .before .before .before .is-short-disp .ensures, c .before .enum-told .given .1))
 
 returns-2 : tie.Need-returns-2
 unfolding encode inRange halfwords
-returns-2 c = rw (c .before .before .enum-told2 .given .1) (c .short2 .ensures ∙ rw (c .before .is-unsigned-multiple .ensures))
+returns-2 c =
+    rw (c .before .enum-told2 .given .1) (c .short2 .ensures ∙ rw (c .before .before .before .is-short-disp .ensures, c .before .enum-told2 .given .1))
 
 returns-3 : tie.Need-returns-3
 unfolding encode inRange halfwords
-returns-3 c = rw (c .before .before .enum-told3 .given .1) (c .short3 .ensures ∙ rw (c .before .is-unsigned-multiple2 .ensures))
+returns-3 c =
+    rw (c .before .enum-told3 .given .1) (c .short3 .ensures ∙ rw (c .before .before .before .is-short-disp .ensures, c .before .enum-told3 .given .1))
 
 pub sst-spec : {M : Type 1} → statement M
 sst-spec =
     tie.close
     (tie.spec
+    is-short-disp-requires
     enum-told
     short-requires
     enum-told-2
-    is-unsigned-multiple-requires
     short-requires-2
     enum-told-3
-    is-unsigned-multiple-requires-2
     mul-short
     add-short
     short-requires-3
