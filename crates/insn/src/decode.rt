@@ -1,11 +1,12 @@
 // From halfwords to instructions.
 ghost use mathlib.Core.Path.{_≡_};
 ghost use mathlib.Core.Bool.{true, false};
-ghost use Prim.Native.Nat.{ℕ, _%_, _≤_, _<_};
+ghost use Prim.Native.Nat.{ℕ, _%_, _^_, _≤_, _<_};
 ghost use lib.Dec.{eqb};
 ghost use Rattle.insn.specs.Coding.{reg2Of, opcodeOf, reg1Of, long, bitOp, loads, stores, when, disp7, disp9, disp22, decodeExtended, decodeFields, decode};
 use crate::BitOp;
 use crate::Decoded;
+use crate::HALFWORDS;
 use crate::Imm5Op;
 use crate::Imm16Op;
 use crate::Insn;
@@ -54,7 +55,7 @@ pub fn decode(first: u16, second: u16) -> Decoded
 
 // A short form, with its fields: opcodes up to 101111.
 pub fn short(h: u32, reg2: u32, opcode: u32, reg1: u32) -> Decoded
-    requires { ⌜ (h < 65536) × (reg2 ≡ reg2Of h) × (opcode ≡ opcodeOf h) × (reg1 ≡ reg1Of h) × (opcode ≤ 0b101111) ⌝ }
+    requires { ⌜ (h < 2 ^ 16) × (reg2 ≡ reg2Of h) × (opcode ≡ opcodeOf h) × (reg1 ≡ reg1Of h) × (opcode ≤ 0b101111) ⌝ }
     ensures { λ r. ⌜ ((w : ℕ) → r ≡ decode h w) ⌝ }
 {
     match opcode {
@@ -105,35 +106,35 @@ pub fn operation(reg2: u32, opcode: u32, reg1: u32) -> Decoded
 
 // 011000-101011: short loads and stores.
 fn sld_byte(h: u32) -> Decoded
-    requires { ⌜ (h < 65536) × (0b011000 ≤ opcodeOf h) × (opcodeOf h < 0b011100) ⌝ }
+    requires { ⌜ (h < 2 ^ 16) × (0b011000 ≤ opcodeOf h) × (opcodeOf h < 0b011100) ⌝ }
     ensures { λ r. ⌜ ((w : ℕ) → r ≡ decode h w) ⌝ }
 {
     sld(Size::Byte, disp7(h), reg2_of(h))
 }
 
 fn sst_byte(h: u32) -> Decoded
-    requires { ⌜ (h < 65536) × (0b011100 ≤ opcodeOf h) × (opcodeOf h < 0b100000) ⌝ }
+    requires { ⌜ (h < 2 ^ 16) × (0b011100 ≤ opcodeOf h) × (opcodeOf h < 0b100000) ⌝ }
     ensures { λ r. ⌜ ((w : ℕ) → r ≡ decode h w) ⌝ }
 {
     sst(Size::Byte, disp7(h), reg2_of(h))
 }
 
 fn sld_half(h: u32) -> Decoded
-    requires { ⌜ (h < 65536) × (0b100000 ≤ opcodeOf h) × (opcodeOf h < 0b100100) ⌝ }
+    requires { ⌜ (h < 2 ^ 16) × (0b100000 ≤ opcodeOf h) × (opcodeOf h < 0b100100) ⌝ }
     ensures { λ r. ⌜ ((w : ℕ) → r ≡ decode h w) ⌝ }
 {
     sld(Size::Half, disp7(h) * 2, reg2_of(h))
 }
 
 fn sst_half(h: u32) -> Decoded
-    requires { ⌜ (h < 65536) × (0b100100 ≤ opcodeOf h) × (opcodeOf h < 0b101000) ⌝ }
+    requires { ⌜ (h < 2 ^ 16) × (0b100100 ≤ opcodeOf h) × (opcodeOf h < 0b101000) ⌝ }
     ensures { λ r. ⌜ ((w : ℕ) → r ≡ decode h w) ⌝ }
 {
     sst(Size::Half, disp7(h) * 2, reg2_of(h))
 }
 
 fn word(h: u32) -> Decoded
-    requires { ⌜ (h < 65536) × (0b101000 ≤ opcodeOf h) × (opcodeOf h < 0b101100) ⌝ }
+    requires { ⌜ (h < 2 ^ 16) × (0b101000 ≤ opcodeOf h) × (opcodeOf h < 0b101100) ⌝ }
     ensures { λ r. ⌜ ((w : ℕ) → r ≡ decode h w) ⌝ }
 {
     let disp = disp7(h) / 2 * 4;
@@ -146,7 +147,7 @@ fn word(h: u32) -> Decoded
 
 // 101100-101111.
 fn bcond(h: u32) -> Decoded
-    requires { ⌜ (h < 65536) × (0b101100 ≤ opcodeOf h) × (opcodeOf h < 0b110000) ⌝ }
+    requires { ⌜ (h < 2 ^ 16) × (0b101100 ≤ opcodeOf h) × (opcodeOf h < 0b110000) ⌝ }
     ensures { λ r. ⌜ ((w : ℕ) → r ≡ decode h w) ⌝ }
 {
     Decoded::Valid(Insn::Bcond {
@@ -157,7 +158,7 @@ fn bcond(h: u32) -> Decoded
 
 // 110000-111111: the forms with a second halfword.
 pub fn long(reg2: u32, opcode: u32, reg1: u32, w: u32) -> Decoded
-    requires { ⌜ (reg2 < 32) × (0b110000 ≤ opcode) × (opcode < 64) × (reg1 < 32) × (w < 65536) ⌝ }
+    requires { ⌜ (reg2 < 32) × (0b110000 ≤ opcode) × (opcode < 64) × (reg1 < 32) × (w < 2 ^ 16) ⌝ }
     ensures { λ r. ⌜ r ≡ decodeFields reg2 opcode reg1 w ⌝ }
 {
     match opcode {
@@ -201,7 +202,7 @@ pub fn long(reg2: u32, opcode: u32, reg1: u32, w: u32) -> Decoded
 
 // JARL has an even displacement.
 fn jarl(reg2: u32, opcode: u32, reg1: u32, w: u32) -> Decoded
-    requires { ⌜ (reg1 < 32) × (w < 65536) ⌝ }
+    requires { ⌜ (reg1 < 32) × (w < 2 ^ 16) ⌝ }
     ensures { λ r. ⌜ r ≡ when (eqb (w % 2) 0) (Insn.Jarl (disp22 opcode reg1 w) reg2) ⌝ }
 {
     when(
@@ -215,7 +216,7 @@ fn jarl(reg2: u32, opcode: u32, reg1: u32, w: u32) -> Decoded
 
 // Opcode 111111, by the second halfword.
 fn extended(reg2: u32, reg1: u32, w: u32) -> Decoded
-    requires { ⌜ (reg2 < 32) × (reg1 < 32) × (w < 65536) ⌝ }
+    requires { ⌜ (reg2 < 32) × (reg1 < 32) × (w < 2 ^ 16) ⌝ }
     ensures { λ r. ⌜ r ≡ decodeExtended reg2 reg1 w ⌝ }
 {
     if 0b0011 <= w / 128 % 16 {
@@ -331,17 +332,17 @@ fn disp7(h: u32) -> u32
 }
 
 fn disp9(h: u32) -> u32
-    requires { ⌜ h < 65536 ⌝ }
+    requires { ⌜ h < 2 ^ 16 ⌝ }
     ensures { λ r. ⌜ r ≡ disp9 (reg2Of h) (opcodeOf h) (reg1Of h) ⌝ }
 {
     extend::sign9(h / 2048 * 16 + h / 16 % 8 * 2)
 }
 
 fn disp22(opcode: u32, reg1: u32, w: u32) -> u32
-    requires { ⌜ (reg1 < 32) × (w < 65536) ⌝ }
+    requires { ⌜ (reg1 < 32) × (w < 2 ^ 16) ⌝ }
     ensures { λ r. ⌜ r ≡ disp22 opcode reg1 w ⌝ }
 {
-    extend::sign22((opcode % 2 * 32 + reg1) * 65536 + w)
+    extend::sign22((opcode % 2 * 32 + reg1) * HALFWORDS + w)
 }
 
 fn bit_op(n: u32) -> BitOp

@@ -2,10 +2,11 @@
 ghost use mathlib.Core.Path.{_≡_};
 ghost use mathlib.Core.Bool.{true, cond, _&&_};
 ghost use mathlib.Core.List.{[]};
-ghost use Prim.Native.Nat.{_≤_, _<_};
+ghost use Prim.Native.Nat.{_^_, _≤_, _<_};
 ghost use Rattle.insn.specs.Coding.{half, regCode, bitCode, short, twoOf, isReg, isSigned, isShortDisp, isLongDisp, inRange, halfwords, encode, DONE, FIELD, number, listed};
 use crate::BitOp;
 use crate::Encoded;
+use crate::HALFWORDS;
 use crate::Imm5Op;
 use crate::Imm16Op;
 use crate::Insn;
@@ -143,8 +144,8 @@ fn imm16(op: Imm16Op, imm: u32, reg1: u32, reg2: u32) -> Encoded
     ensures { λ r. ⌜ r ≡ encode (Insn.Imm16 op imm reg1 reg2) ⌝ }
 {
     let signed = is_signed(16, imm);
-    let plain = imm < 65536;
-    let w = imm % 65536;
+    let plain = imm < HALFWORDS;
+    let w = imm % HALFWORDS;
     match op {
         Imm16Op::Addi => long(0b110000, signed, w, reg1, reg2),
         Imm16Op::Movea => long(0b110001, signed, w, reg1, reg2),
@@ -161,7 +162,7 @@ fn ld(size: Size, disp: u32, reg1: u32, reg2: u32) -> Encoded
     ensures { λ r. ⌜ r ≡ encode (Insn.Ld size disp reg1 reg2) ⌝ }
 {
     let ok = is_long_disp(size, disp);
-    let w = disp % 65536;
+    let w = disp % HALFWORDS;
     match size {
         Size::Byte => long(0b111000, ok, w, reg1, reg2),
         Size::Half => long(0b111001, ok, w, reg1, reg2),
@@ -173,7 +174,7 @@ fn st(size: Size, disp: u32, reg1: u32, reg2: u32) -> Encoded
     ensures { λ r. ⌜ r ≡ encode (Insn.St size disp reg1 reg2) ⌝ }
 {
     let ok = is_long_disp(size, disp);
-    let w = disp % 65536;
+    let w = disp % HALFWORDS;
     match size {
         Size::Byte => long(0b111010, ok, w, reg1, reg2),
         Size::Half => long(0b111011, ok, w, reg1, reg2),
@@ -193,12 +194,12 @@ fn jarl(disp: u32, reg2: u32) -> Encoded
     if 32 <= reg2 {
         return Encoded::Field;
     }
-    let bits = disp % 4194304;
+    let bits = disp % 0x400000;
     two(
         reg2,
-        0b111100 + bits / 2097152,
-        bits / 65536 % 32,
-        disp % 65536,
+        0b111100 + bits / 0x200000,
+        bits / HALFWORDS % 32,
+        disp % HALFWORDS,
     )
 }
 
@@ -214,7 +215,7 @@ fn bit_insn(op: BitOp, bit: u32, disp: u32, reg1: u32) -> Encoded
     if 32 <= reg1 {
         return Encoded::Field;
     }
-    two(bit_code(op) * 8 + bit, 0b111110, reg1, disp % 65536)
+    two(bit_code(op) * 8 + bit, 0b111110, reg1, disp % HALFWORDS)
 }
 
 fn setf(cond: u32, reg2: u32) -> Encoded
@@ -296,7 +297,7 @@ fn short(opcode: u32, ok: bool, field: u32, reg2: u32) -> Encoded
 
 // Two halfwords; ok tells whether the operand in the second one is in range.
 fn long(opcode: u32, ok: bool, w: u32, reg1: u32, reg2: u32) -> Encoded
-    requires { ⌜ (opcode < 64) × (ok ≡ true → w < 65536) ⌝ }
+    requires { ⌜ (opcode < 64) × (ok ≡ true → w < 2 ^ 16) ⌝ }
     ensures { λ r. ⌜ r ≡ cond (ok && (isReg reg1 && isReg reg2)) (twoOf reg2 opcode reg1 w) Encoded.Field ⌝ }
 {
     if !ok {
@@ -313,7 +314,7 @@ fn long(opcode: u32, ok: bool, w: u32, reg1: u32, reg2: u32) -> Encoded
 
 // Two halfwords, by their fields.
 fn two(reg2: u32, opcode: u32, reg1: u32, w: u32) -> Encoded
-    requires { ⌜ (reg2 < 32) × (opcode < 64) × (reg1 < 32) × (w < 65536) ⌝ }
+    requires { ⌜ (reg2 < 32) × (opcode < 64) × (reg1 < 32) × (w < 2 ^ 16) ⌝ }
     ensures { λ r. ⌜ r ≡ twoOf reg2 opcode reg1 w ⌝ }
 {
     Encoded::Two(half(reg2, opcode, reg1), w as u16)

@@ -3,6 +3,9 @@
 pub mod decode;
 pub mod encode;
 
+// How many halfwords there are.
+pub(crate) const HALFWORDS: u32 = 0x10000;
+
 // Format I: register and register. JMP, which has one operand, is an instruction of its own.
 pub enum RegOp {
     Mov,
