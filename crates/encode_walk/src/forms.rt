@@ -12,7 +12,7 @@ use insn::ShiftOp;
 use insn::Size;
 
 // An instruction without its operands.
-pub enum Form {
+pub(crate) enum Form {
     Reg(RegOp),
     Jmp,
     Imm5(Imm5Op),
@@ -36,7 +36,7 @@ pub enum Form {
 }
 
 // How many instructions of a form are tried.
-pub fn size(form: Form) -> u32 {
+pub(crate) fn size(form: Form) -> u32 {
     match form {
         Form::Reg(_) | Form::Shift(_) => REGISTERS * REGISTERS,
         Form::Jmp => REGISTERS,
@@ -51,79 +51,79 @@ pub fn size(form: Form) -> u32 {
 }
 
 // Of reg1, reg2, the number and the value, in this order, the first that a form has changes with every instruction.
-pub fn filled(form: Form, n: u32) -> Insn {
+pub(crate) fn filled(form: Form, n: u32) -> Insn {
     match form {
         Form::Reg(op) => Insn::Reg {
             op,
-            reg1: lists::register(n % 8),
-            reg2: lists::register(n / 8),
+            reg1: lists::register(n % REGISTERS),
+            reg2: lists::register(n / REGISTERS),
         },
         Form::Jmp => Insn::Jmp {
             reg1: lists::register(n),
         },
         Form::Imm5(op) => Insn::Imm5 {
             op,
-            imm: lists::value(n / 8),
-            reg2: lists::register(n % 8),
+            imm: lists::value(n / REGISTERS),
+            reg2: lists::register(n % REGISTERS),
         },
         Form::Sld(size) => Insn::Sld {
             size,
-            disp: lists::value(n / 8),
-            reg2: lists::register(n % 8),
+            disp: lists::value(n / REGISTERS),
+            reg2: lists::register(n % REGISTERS),
         },
         Form::Sst(size) => Insn::Sst {
             size,
-            disp: lists::value(n / 8),
-            reg2: lists::register(n % 8),
+            disp: lists::value(n / REGISTERS),
+            reg2: lists::register(n % REGISTERS),
         },
         Form::Bcond => Insn::Bcond {
-            cond: lists::number(n % 40),
-            disp: lists::value(n / 40),
+            cond: lists::number(n % NUMBERS),
+            disp: lists::value(n / NUMBERS),
         },
         Form::Imm16(op) => Insn::Imm16 {
             op,
-            imm: lists::value(n / 64),
-            reg1: lists::register(n % 8),
-            reg2: lists::register(n / 8 % 8),
+            imm: lists::value(n / REGISTERS / REGISTERS),
+            reg1: lists::register(n % REGISTERS),
+            reg2: lists::register(n / REGISTERS % REGISTERS),
         },
         Form::Ld(size) => Insn::Ld {
             size,
-            disp: lists::value(n / 64),
-            reg1: lists::register(n % 8),
-            reg2: lists::register(n / 8 % 8),
+            disp: lists::value(n / REGISTERS / REGISTERS),
+            reg1: lists::register(n % REGISTERS),
+            reg2: lists::register(n / REGISTERS % REGISTERS),
         },
         Form::St(size) => Insn::St {
             size,
-            disp: lists::value(n / 64),
-            reg1: lists::register(n % 8),
-            reg2: lists::register(n / 8 % 8),
+            disp: lists::value(n / REGISTERS / REGISTERS),
+            reg1: lists::register(n % REGISTERS),
+            reg2: lists::register(n / REGISTERS % REGISTERS),
         },
         Form::Jarl => Insn::Jarl {
-            disp: lists::value(n / 8),
-            reg2: lists::register(n % 8),
+            disp: lists::value(n / REGISTERS),
+            reg2: lists::register(n % REGISTERS),
         },
         Form::Bit(op) => Insn::Bit {
             op,
-            bit: lists::number(n / 8 % 40),
-            disp: lists::value(n / 320),
-            reg1: lists::register(n % 8),
+            bit: lists::number(n / REGISTERS % NUMBERS),
+            disp: lists::value(n / REGISTERS / NUMBERS),
+            reg1: lists::register(n % REGISTERS),
         },
         Form::Setf => Insn::Setf {
-            cond: lists::number(n / 8),
-            reg2: lists::register(n % 8),
+            cond: lists::number(n / REGISTERS),
+            reg2: lists::register(n % REGISTERS),
         },
         Form::Ldsr => Insn::Ldsr {
-            reg2: lists::register(n % 8),
-            regid: lists::number(n / 8),
+            reg2: lists::register(n % REGISTERS),
+            regid: lists::number(n / REGISTERS),
         },
         Form::Stsr => Insn::Stsr {
-            regid: lists::number(n / 8),
-            reg2: lists::register(n % 8),
+            regid: lists::number(n / REGISTERS),
+            reg2: lists::register(n % REGISTERS),
         },
         Form::Shift(op) => Insn::Shift {
             op,
-            reg1: lists::register(n % 8),
-            reg2: lists::register(n / 8),
+            reg1: lists::register(n % REGISTERS),
+            reg2: lists::register(n / REGISTERS),
         },
         Form::Trap => Insn::Trap {
             vector: lists::number(n),

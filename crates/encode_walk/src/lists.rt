@@ -1,13 +1,13 @@
 // The operands that are tried.
 
-pub const REGISTERS: u32 = 8;
+pub(crate) const REGISTERS: u32 = 8;
 
-pub const NUMBERS: u32 = 40;
+pub(crate) const NUMBERS: u32 = 40;
 
-pub const VALUES: u32 = 504;
+pub(crate) const VALUES: u32 = 504;
 
 // Registers: the ends, some between, and three that do not exist.
-pub fn register(n: u32) -> u32 {
+pub(crate) fn register(n: u32) -> u32 {
     match n {
         0 => 0,
         1 => 1,
@@ -21,7 +21,7 @@ pub fn register(n: u32) -> u32 {
 }
 
 // Conditions, bit numbers, vectors and system registers: all below 34, and six above.
-pub fn number(n: u32) -> u32 {
+pub(crate) fn number(n: u32) -> u32 {
     if n < 34 {
         return n;
     }
@@ -29,14 +29,14 @@ pub fn number(n: u32) -> u32 {
         34 => 64,
         35 => 128,
         36 => 256,
-        37 => 65536,
+        37 => 0x10000,
         38 => 0x80000000,
         _ => 0xFFFFFFFF,
     }
 }
 
 // Immediates and displacements: nine words around each middle, from 4 below it to 4 above.
-pub fn value(n: u32) -> u32 {
+pub(crate) fn value(n: u32) -> u32 {
     let from = std::num::wrapping_sub_u32(middle(n / 9), 4);
     std::num::wrapping_add_u32(from, n % 9)
 }

@@ -2,14 +2,14 @@
 use insn::Encoded;
 use libc::STDOUT_FILENO;
 
-pub struct Tally {
+pub(crate) struct Tally {
     one: u32,
     two: u32,
     field: u32,
     sum: u32,
 }
 
-pub fn none() -> Tally {
+pub(crate) fn none() -> Tally {
     Tally {
         one: 0,
         two: 0,
@@ -19,7 +19,7 @@ pub fn none() -> Tally {
 }
 
 // The number of halfwords goes into the sum, and both halfwords, 0 for one that is not there.
-pub fn noted(t: Tally, e: Encoded) -> Tally {
+pub(crate) fn noted(t: Tally, e: Encoded) -> Tally {
     match e {
         Encoded::One(h) => Tally {
             one: more(t.one),
@@ -53,10 +53,10 @@ fn mixed(sum: u32, count: u32, first: u16, second: u16) -> u32 {
 // The factor is odd, so answers that differ in one place only have different sums; and 1 more than a multiple of 4, so that many
 // like differences do not cancel.
 fn mix(sum: u32, n: u32) -> u32 {
-    ((sum as u64 * 1664525 + n as u64) % 4294967296) as u32
+    ((sum as u64 * 1664525 + n as u64) % 0x100000000) as u32
 }
 
-pub fn print(t: Tally) {
+pub(crate) fn print(t: Tally) {
     column(t.one);
     column(t.two);
     column(t.field);

@@ -66,7 +66,7 @@ const SECONDS: [u16; 26] = [
 
 fn main() {
     let mut k: usize = 0;
-    while k < 26 {
+    while k < SECONDS.len() {
         walk(SECONDS[k]);
         k += 1;
     }
@@ -79,7 +79,7 @@ fn walk(second: u16) {
     let mut undefined: u32 = 0;
     let mut mismatches: u32 = 0;
     let mut first: u32 = 0;
-    while first < 65536 {
+    while first < 0x10000 {
         let answer = judge(first as u16, second);
         instructions += one_if_same(answer, INSTRUCTION);
         illegal += one_if_same(answer, ILLEGAL);

@@ -4,13 +4,13 @@ ghost use lib.ListN.{length};
 use crate::maps;
 
 // A byte more than a block has.
-pub const ROOM: usize = 237;
+pub(crate) const ROOM: usize = 237;
 
 // Where the map begins.
 const MAP: usize = 172;
 
 // The map is map's, but for word `at`, which is changed to value. All other bytes are `fill`.
-pub fn block(map: u32, at: u32, value: u32, fill: u8) -> [u8; ROOM]
+pub(crate) fn block(map: u32, at: u32, value: u32, fill: u8) -> [u8; ROOM]
     ensures { λ r. ⌜ 237 ≡ length r ⌝ }
 {
     let mut b = [fill; ROOM];

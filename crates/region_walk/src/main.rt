@@ -22,14 +22,25 @@ mod seen;
 use libc::STDOUT_FILENO;
 use maps::MAPS;
 use maps::VALUES;
+use maps::WORDS;
 use seen::Seen;
 use v850::entry;
+
+// What a block is filled with.
+const FILLINGS: u32 = 2;
+
+// Lengths of the block and of the memory that a view is given, and region numbers that it is asked for.
+const BLOCKS: u32 = 3;
+
+const MEMORIES: u32 = 7;
+
+const REGIONS: u32 = 6;
 
 fn main() {
     let mut m = memory::memory();
     let mut n: u32 = 0;
-    while n < MAPS * 16 {
-        line(n / 16, n % 16, &mut m);
+    while n < MAPS * WORDS {
+        line(n / WORDS, n % WORDS, &mut m);
         n += 1;
     }
 }
@@ -40,8 +51,8 @@ fn line(map: u32, word: u32, m: &mut [u8])
 {
     let mut s = seen::none();
     let mut v: u32 = 0;
-    while v < VALUES * 2 {
-        let b = block::block(map, word, v / 2, fill(v % 2));
+    while v < VALUES * FILLINGS {
+        let b = block::block(map, word, v / FILLINGS, fill(v % FILLINGS));
         s = views(s, &b, m);
         v += 1;
     }
@@ -59,20 +70,20 @@ fn views(from: Seen, b: &[u8], m: &mut [u8]) -> Seen
 {
     let mut s = from;
     let mut n: u32 = 0;
-    while n < 126 {
+    while n < BLOCKS * MEMORIES * REGIONS {
         s = view(s, b, m, n);
         n += 1;
     }
     s
 }
 
-// View n: of three lengths of the block, seven of the memory and six regions.
+// View n: the region changes with every view, and the length of the block last.
 fn view(s: Seen, b: &[u8], m: &mut [u8], n: u32) -> Seen
     requires { ⌜ (length (now b) ≡ 237) × (length (now m) ≡ 65537) ⌝ }
 {
-    let long = block_length(n / 42);
-    let size = memory_length(n / 6 % 7);
-    let part = entry::region(&b[0..long], &mut m[0..size], region(n % 6));
+    let long = block_length(n / REGIONS / MEMORIES);
+    let size = memory_length(n / REGIONS % MEMORIES);
+    let part = entry::region(&b[0..long], &mut m[0..size], region(n % REGIONS));
     seen::noted(s, part)
 }
 

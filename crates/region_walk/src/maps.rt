@@ -1,11 +1,14 @@
 // Good maps, and what one word of them is changed to.
 
-pub const MAPS: u32 = 6;
+pub(crate) const MAPS: u32 = 6;
 
-pub const VALUES: u32 = 16;
+// Words of a map: four for each of four regions.
+pub(crate) const WORDS: u32 = 16;
+
+pub(crate) const VALUES: u32 = 16;
 
 // Word w of a map: base, length, offset and rights of region w / 4.
-pub fn word(map: u32, w: u32) -> u32 {
+pub(crate) fn word(map: u32, w: u32) -> u32 {
     match map {
         0 => touching(w),
         1 => to_the_ends(w),
@@ -89,7 +92,7 @@ fn turned(w: u32) -> u32 {
 }
 
 // What a word is changed to: itself, a little more or less, and numbers at the ends of what a field may be.
-pub fn changed(old: u32, value: u32) -> u32 {
+pub(crate) fn changed(old: u32, value: u32) -> u32 {
     match value {
         0 => old,
         1 => std::num::wrapping_add_u32(old, 1),

@@ -3,9 +3,9 @@ ghost use mathlib.Core.Path.{_≡_};
 ghost use lib.ListN.{length};
 
 // A byte more than a memory may have.
-pub const ROOM: usize = 65537;
+pub(crate) const ROOM: usize = 65537;
 
-pub fn memory() -> [u8; ROOM]
+pub(crate) fn memory() -> [u8; ROOM]
     ensures { λ r. ⌜ 65537 ≡ length r ⌝ }
 {
     let mut m = [0u8; ROOM];

@@ -3,19 +3,19 @@ ghost use Prim.Native.Nat.{_+_, _≤_};
 ghost use lib.ListN.{length};
 use libc::STDOUT_FILENO;
 
-pub struct Seen {
+pub(crate) struct Seen {
     parts: u32,
     sum: u32,
 }
 
-pub fn none() -> Seen {
+pub(crate) fn none() -> Seen {
     Seen { parts: 0, sum: 0 }
 }
 
 // The length goes into the sum, and of a part that is not empty the first four bytes and the last.
-pub fn noted(s: Seen, part: &[u8]) -> Seen {
+pub(crate) fn noted(s: Seen, part: &[u8]) -> Seen {
     let n = part.len();
-    let sum = mix(s.sum, (n % 4294967296) as u32);
+    let sum = mix(s.sum, (n % 0x100000000) as u32);
     if n < 4 {
         return Seen {
             parts: s.parts,
@@ -44,10 +44,10 @@ fn wide(b: u8) -> u32 {
 // The factor is odd, so parts that differ in one place only have different sums; and 1 more than a multiple of 4, so that many
 // like differences do not cancel.
 fn mix(sum: u32, n: u32) -> u32 {
-    ((sum as u64 * 1664525 + n as u64) % 4294967296) as u32
+    ((sum as u64 * 1664525 + n as u64) % 0x100000000) as u32
 }
 
-pub fn print(s: Seen) {
+pub(crate) fn print(s: Seen) {
     io::write_all(STDOUT_FILENO, b" ");
     io::print_decimal(STDOUT_FILENO, s.parts as u64);
     io::write_all(STDOUT_FILENO, b" ");

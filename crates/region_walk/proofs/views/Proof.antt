@@ -15,6 +15,12 @@ abbrev μ-loop : tie.MeasureT-loop
 loop-holds : tie.Need-loop-holds Inv-loop μ-loop
 loop-holds c = search needs
 
+mul-loop : tie.Need-mul-loop Inv-loop μ-loop
+mul-loop c = search needs
+
+mul-loop-2 : tie.Need-mul-loop-2 Inv-loop μ-loop
+mul-loop-2 c = search needs
+
 view-requires : tie.Need-view-requires Inv-loop μ-loop
 view-requires c κs = search needs
 
@@ -40,6 +46,8 @@ views-spec =
     Inv-loop
     μ-loop
     loop-holds
+    mul-loop
+    mul-loop-2
     view-requires
     add-n
     loop-less
