@@ -51,6 +51,9 @@ example: setup header library readme
 	@$(X86) cc -std=c11 -O2 $(WARN) -Iinclude -static -o target/example/host examples/host.c $(LIBRARY)
 	@$(X86) run target/example/host >target/example/host.out
 	@diff examples/host.expected target/example/host.out
+	@for words in "x" "examples/host.c zz 16" "examples/host.c 200 -1" "examples/host.c FFFF 2" "examples 200 16"; do \
+		$(X86) run target/example/host $$words >target/example/refused.out 2>&1; \
+		[ $$? -eq 2 ] || { echo "examples/host does not refuse: $$words"; exit 1; }; done
 	@echo "examples/host: as expected"
 
 # The program in README.md does what README.md says: what it prints stands there as a line of its own.
@@ -90,7 +93,7 @@ run:
 test:
 	@$(X86) setup native
 	@$(SUB) header
-	@$(SUB) -s -C tests/second test BUILD=$(CURDIR)/target/second
+	@$(SUB) -s -C tests/second test
 	@$(SUB) -C tests/compare self
 	@$(SUB) compare
 	@$(SUB) walks
