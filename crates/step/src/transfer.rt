@@ -28,7 +28,8 @@ fn address(size: Size, base: u32, disp: u32) -> u32
     memory::aligned(size, extend::sum24(base, disp))
 }
 
-pub fn load(
+// A load of one size.
+fn load_of(
     size: Size,
     disp: u32,
     base: u32,
@@ -60,7 +61,72 @@ pub fn load(
     }
 }
 
-pub fn store(
+// Called by size, as is a store: the compiler makes a copy for each, and so asks for the size once.
+pub fn load(
+    size: Size,
+    disp: u32,
+    base: u32,
+    target: u32,
+    len: u32,
+    map: &[u32; MAP],
+    sizes: &[u32; SIZES],
+    o: Packed,
+    cells: &mut [u32; CELLS],
+    tags: &mut [u8; CELLS],
+    mem: &[u8],
+    marks: &[u8],
+) -> Out
+    requires { ⌜ Prepared (now map) (now sizes) (now mem) (now marks) × (base < 32) × (target < 32) ⌝ }
+    ensures { λ r. ⌜ after (wentOf o r) (both (now (cells .exit)) (now (tags .exit))) (both (now (mem .entry)) (now (marks .entry))) ≡ load size disp base target len (now (map .entry)) (openOf o) (both (now (cells .entry)) (now (tags .entry))) (both (now (mem .entry)) (now (marks .entry))) ⌝ }
+{
+    match size {
+        Size::Byte => load_of(
+            Size::Byte,
+            disp,
+            base,
+            target,
+            len,
+            map,
+            sizes,
+            o,
+            cells,
+            tags,
+            mem,
+            marks,
+        ),
+        Size::Half => load_of(
+            Size::Half,
+            disp,
+            base,
+            target,
+            len,
+            map,
+            sizes,
+            o,
+            cells,
+            tags,
+            mem,
+            marks,
+        ),
+        Size::Word => load_of(
+            Size::Word,
+            disp,
+            base,
+            target,
+            len,
+            map,
+            sizes,
+            o,
+            cells,
+            tags,
+            mem,
+            marks,
+        ),
+    }
+}
+
+// A store of one size.
+fn store_of(
     size: Size,
     disp: u32,
     base: u32,
@@ -89,6 +155,69 @@ pub fn store(
             core::plus(len, o)
         }
         Spot::Nowhere => core::refuse(Answer::NoWrite, a, o),
+    }
+}
+
+pub fn store(
+    size: Size,
+    disp: u32,
+    base: u32,
+    source: u32,
+    len: u32,
+    map: &[u32; MAP],
+    sizes: &[u32; SIZES],
+    o: Packed,
+    cells: &[u32; CELLS],
+    tags: &[u8; CELLS],
+    mem: &mut [u8],
+    marks: &mut [u8],
+) -> Out
+    requires { ⌜ Prepared (now map) (now sizes) (now mem) (now marks) × (base < 32) × (source < 32) ⌝ }
+    ensures { λ r. ⌜ after (wentOf o r) (both (now (cells .entry)) (now (tags .entry))) (both (now (mem .exit)) (now (marks .exit))) ≡ store size disp base source len (now (map .entry)) (openOf o) (both (now (cells .entry)) (now (tags .entry))) (both (now (mem .entry)) (now (marks .entry))) ⌝ }
+{
+    match size {
+        Size::Byte => store_of(
+            Size::Byte,
+            disp,
+            base,
+            source,
+            len,
+            map,
+            sizes,
+            o,
+            cells,
+            tags,
+            mem,
+            marks,
+        ),
+        Size::Half => store_of(
+            Size::Half,
+            disp,
+            base,
+            source,
+            len,
+            map,
+            sizes,
+            o,
+            cells,
+            tags,
+            mem,
+            marks,
+        ),
+        Size::Word => store_of(
+            Size::Word,
+            disp,
+            base,
+            source,
+            len,
+            map,
+            sizes,
+            o,
+            cells,
+            tags,
+            mem,
+            marks,
+        ),
     }
 }
 

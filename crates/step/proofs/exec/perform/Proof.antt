@@ -23,61 +23,19 @@ plus-requires c κs = search needs
 enum-known-t-2 : tie.Need-enum-known-t-2
 enum-known-t-2 c = search needs
 
-enum-told : tie.Need-enum-told
-enum-told c = search needs
-
 load-requires : tie.Need-load-requires
 load-requires c κs =
-    let pre′ = c .before .before .before .before .before .before .before .before .before .before .before .pre in
-    let t2′ = c .before .before .before .before .before .before .before .t2 in
-    let f = subst TaskFields (t2′ .given .1) (pre′ .1) in (pre′ .0, f .0, f .1)
-
-enum-told-2 : tie.Need-enum-told-2
-enum-told-2 c = search needs
-
-load-requires-2 : tie.Need-load-requires-2
-load-requires-2 c κs =
-    let pre′ = c .before .before .before .before .before .before .before .before .before .before .before .pre in
-    let t2′ = c .before .before .before .before .before .before .before .t2 in
-    let f = subst TaskFields (t2′ .given .1) (pre′ .1) in (pre′ .0, f .0, f .1)
-
-enum-told-3 : tie.Need-enum-told-3
-enum-told-3 c = search needs
-
-load-requires-3 : tie.Need-load-requires-3
-load-requires-3 c κs =
-    let pre′ = c .before .before .before .before .before .before .before .before .before .before .before .pre in
-    let t2′ = c .before .before .before .before .before .before .before .t2 in
+    let pre′ = c .before .before .before .before .before .before .before .before .before .pre in
+    let t2′ = c .before .before .before .before .before .t2 in
     let f = subst TaskFields (t2′ .given .1) (pre′ .1) in (pre′ .0, f .0, f .1)
 
 enum-known-t-3 : tie.Need-enum-known-t-3
 enum-known-t-3 c = search needs
 
-enum-told-4 : tie.Need-enum-told-4
-enum-told-4 c = search needs
-
 store-requires : tie.Need-store-requires
 store-requires c κs =
-    let pre′ = c .before .before .before .before .before .before .before .before .before .before .before .pre in
-    let t3′ = c .before .before .before .before .before .before .before .t3 in
-    let f = subst TaskFields (t3′ .given .1) (pre′ .1) in (pre′ .0, f .0, f .1)
-
-enum-told-5 : tie.Need-enum-told-5
-enum-told-5 c = search needs
-
-store-requires-2 : tie.Need-store-requires-2
-store-requires-2 c κs =
-    let pre′ = c .before .before .before .before .before .before .before .before .before .before .before .pre in
-    let t3′ = c .before .before .before .before .before .before .before .t3 in
-    let f = subst TaskFields (t3′ .given .1) (pre′ .1) in (pre′ .0, f .0, f .1)
-
-enum-told-6 : tie.Need-enum-told-6
-enum-told-6 c = search needs
-
-store-requires-3 : tie.Need-store-requires-3
-store-requires-3 c κs =
-    let pre′ = c .before .before .before .before .before .before .before .before .before .before .before .pre in
-    let t3′ = c .before .before .before .before .before .before .before .t3 in
+    let pre′ = c .before .before .before .before .before .before .before .before .before .pre in
+    let t3′ = c .before .before .before .before .before .t3 in
     let f = subst TaskFields (t3′ .given .1) (pre′ .1) in (pre′ .0, f .0, f .1)
 
 enum-known-t-4 : tie.Need-enum-known-t-4
@@ -167,8 +125,8 @@ same-length-2 c = search needs
 returns-2 : tie.Need-returns-2
 unfolding doTask
 returns-2 c =
-    let t2′ = c .before .before .before .before .before .before .before .before .t2 in
-    rw (t2′ .given .1, c .before .before .before .before .before .enum-told .given .1) (c .load .ensures)
+    let t2′ = c .before .before .before .before .before .before .t2 in
+    rw (t2′ .given .1) (c .load .ensures)
 
 same-length-3 : tie.Need-same-length-3
 same-length-3 c = search needs
@@ -179,8 +137,9 @@ same-length-4 c = search needs
 returns-3 : tie.Need-returns-3
 unfolding doTask
 returns-3 c =
-    let t2′ = c .before .before .before .before .before .before .before .before .t2 in
-    rw (t2′ .given .1, c .before .before .before .before .before .enum-told2 .given .1) (c .load2 .ensures)
+    let t3′ = c .before .before .before .before .before .before .before .before .before .before .t3 in
+    let store′ = c .before .before .before .before .store in
+    rw (t3′ .given .1) (store′ .ensures)
 
 same-length-5 : tie.Need-same-length-5
 same-length-5 c = search needs
@@ -191,102 +150,48 @@ same-length-6 c = search needs
 returns-4 : tie.Need-returns-4
 unfolding doTask
 returns-4 c =
-    let t2′ = c .before .before .before .before .before .before .before .before .t2 in
-    rw (t2′ .given .1, c .before .before .before .before .before .enum-told3 .given .1) (c .load3 .ensures)
-
-same-length-7 : tie.Need-same-length-7
-same-length-7 c = search needs
-
-same-length-8 : tie.Need-same-length-8
-same-length-8 c = search needs
+    let t4′ = c .before .before .before .before .before .before .before .before .t4 in
+    rw (t4′ .given .1) (c .before .before .bitwise .ensures)
 
 returns-5 : tie.Need-returns-5
 unfolding doTask
 returns-5 c =
-    let t3′ = c .before .before .before .before .before .before .before .before .before .before .before .before .t3 in
-    let enum-told4′ = c .before .before .before .before .before .before .before .before .before .enum-told4 in
-    let store′ = c .before .before .before .before .store in
-    rw (t3′ .given .1, enum-told4′ .given .1) (store′ .ensures)
-
-same-length-9 : tie.Need-same-length-9
-same-length-9 c = search needs
-
-same-length-10 : tie.Need-same-length-10
-same-length-10 c = search needs
+    let t5′ = c .before .before .before .before .t5 in
+    rw (t5′ .given .1) (c .jmp .ensures _)
 
 returns-6 : tie.Need-returns-6
 unfolding doTask
 returns-6 c =
-    let t3′ = c .before .before .before .before .before .before .before .before .before .before .before .before .t3 in
-    let enum-told5′ = c .before .before .before .before .before .before .before .before .before .enum-told5 in
-    let store2′ = c .before .before .before .before .store2 in
-    rw (t3′ .given .1, enum-told5′ .given .1) (store2′ .ensures)
-
-same-length-11 : tie.Need-same-length-11
-same-length-11 c = search needs
-
-same-length-12 : tie.Need-same-length-12
-same-length-12 c = search needs
+    let t6′ = c .before .before .before .before .t6 in
+    rw (t6′ .given .1) (c .bcond .ensures _)
 
 returns-7 : tie.Need-returns-7
 unfolding doTask
 returns-7 c =
-    let t3′ = c .before .before .before .before .before .before .before .before .before .before .before .before .t3 in
-    let enum-told6′ = c .before .before .before .before .before .before .before .before .before .enum-told6 in
-    let store3′ = c .before .before .before .before .store3 in
-    rw (t3′ .given .1, enum-told6′ .given .1) (store3′ .ensures)
-
-same-length-13 : tie.Need-same-length-13
-same-length-13 c = search needs
-
-same-length-14 : tie.Need-same-length-14
-same-length-14 c = search needs
+    let t7′ = c .before .before .before .before .t7 in
+    rw (t7′ .given .1) (c .jarl .ensures _)
 
 returns-8 : tie.Need-returns-8
 unfolding doTask
 returns-8 c =
-    let t4′ = c .before .before .before .before .before .before .before .before .t4 in
-    rw (t4′ .given .1) (c .before .before .bitwise .ensures)
+    let t8′ = c .before .before .before .before .t8 in
+    rw (t8′ .given .1) (c .setf .ensures _)
 
 returns-9 : tie.Need-returns-9
 unfolding doTask
 returns-9 c =
-    let t5′ = c .before .before .before .before .t5 in
-    rw (t5′ .given .1) (c .jmp .ensures _)
+    let t9′ = c .before .before .before .before .t9 in
+    rw (t9′ .given .1) (c .ldsr .ensures _)
 
 returns-10 : tie.Need-returns-10
 unfolding doTask
 returns-10 c =
-    let t6′ = c .before .before .before .before .t6 in
-    rw (t6′ .given .1) (c .bcond .ensures _)
+    let t10′ = c .before .before .before .before .t10 in
+    rw (t10′ .given .1) (c .stsr .ensures _)
 
 returns-11 : tie.Need-returns-11
 unfolding doTask
 returns-11 c =
-    let t7′ = c .before .before .before .before .t7 in
-    rw (t7′ .given .1) (c .jarl .ensures _)
-
-returns-12 : tie.Need-returns-12
-unfolding doTask
-returns-12 c =
-    let t8′ = c .before .before .before .before .t8 in
-    rw (t8′ .given .1) (c .setf .ensures _)
-
-returns-13 : tie.Need-returns-13
-unfolding doTask
-returns-13 c =
-    let t9′ = c .before .before .before .before .t9 in
-    rw (t9′ .given .1) (c .ldsr .ensures _)
-
-returns-14 : tie.Need-returns-14
-unfolding doTask
-returns-14 c =
-    let t10′ = c .before .before .before .before .t10 in
-    rw (t10′ .given .1) (c .stsr .ensures _)
-
-returns-15 : tie.Need-returns-15
-unfolding doTask
-returns-15 c =
     let args′ = c .before .before .before .before .before .before .before .before .before .before .args in
     let t11′ = c .before .before .before .before .before .before .t11 in
     let unpack′ = c .before .before .before .before .unpack in
@@ -300,19 +205,9 @@ perform-spec =
     operate-requires
     plus-requires
     enum-known-t-2
-    enum-told
     load-requires
-    enum-told-2
-    load-requires-2
-    enum-told-3
-    load-requires-3
     enum-known-t-3
-    enum-told-4
     store-requires
-    enum-told-5
-    store-requires-2
-    enum-told-6
-    store-requires-3
     enum-known-t-4
     bitwise-requires
     enum-known-t-5
@@ -341,22 +236,10 @@ perform-spec =
     same-length-5
     same-length-6
     returns-4
-    same-length-7
-    same-length-8
     returns-5
-    same-length-9
-    same-length-10
     returns-6
-    same-length-11
-    same-length-12
     returns-7
-    same-length-13
-    same-length-14
     returns-8
     returns-9
     returns-10
-    returns-11
-    returns-12
-    returns-13
-    returns-14
-    returns-15)
+    returns-11)
