@@ -23,7 +23,7 @@ use Rattle.machine.specs.declared.Tv.{Tv}
 use Rattle.machine.specs.declared.Open.{Open}
 use Rattle.machine.specs.declared.Kind.{Kind}
 use Rattle.machine.specs.Marked.{tv, plain, lift1, lift2, liftAll, Cells, both, marked, cell, put, edit}
-use Rattle.machine.specs.Psw.{reg, putReg, PSW, sys, Bits, bits, bitsAt, putBits}
+use Rattle.machine.specs.Psw.{REGS, reg, putReg, PSW, sys, Bits, bits, bitsAt, putBits}
 use Rattle.machine.specs.Psw.{Rule, kept, constant, computed, raised, Rules, follow, followAll, rulesOf, told, everyFlag, quiet, setFlags, setZ}
 use Rattle.machine.specs.Psw.{condition, psw, putPswFlags, mode, spread, gathered}
 use Rattle.machine.specs.Memory.{bytesAt, putBytes}
@@ -98,7 +98,7 @@ pub bits-alike : (x : ℕ) → AlikeBits (bits x 0) (bits x 0)
 bits-alike x = same 0 x x (λ k l e. refl)
 
 pub spread-alike : {v w : Tv} → AlikeTv v w → AlikeBits (spread v) (spread w)
-spread-alike (same true {v} {w} p) = same 255 (v % 2 ^ 8) (w % 2 ^ 8) (λ k l e. absurd (subst T e (below-at 8 (λ j. bit j 255) tt k l)))
+spread-alike (same true {v} {w} p) = same (2 ^ 8 - 1) (v % 2 ^ 8) (w % 2 ^ 8) (λ k l e. absurd (subst T e (below-at 8 (λ j. bit j (2 ^ 8 - 1)) tt k l)))
 spread-alike (same false {v} {w} p) = same 0 (v % 2 ^ 8) (w % 2 ^ 8) (λ k l e. ap (λ (x : ℕ). bit k (x % 2 ^ 8)) (p refl))
 
 -- n bits from bit s on as one value, marked if one of them is
@@ -238,16 +238,16 @@ module _ {byBits : ℕ → Bool} where
 abbrev pub TwinCells : Cells → Cells → Type 0
 TwinCells c d = Twins bitCells c d
 
-register : (n : ℕ) → bitCells (n % 32) ≡ false
-register n = beq→eq (bitCells (n % 32)) false (below-at 32 (λ k. Bool·beq (bitCells k) false) tt (n % 32) (omega arith))
+pub register : (i : ℕ) → i < REGS → bitCells i ≡ false
+register i h = beq→eq (bitCells i) false (below-at REGS (λ k. Bool·beq (bitCells k) false) tt i h)
 
 module _ {c d : Cells} (h : TwinCells c d) where
   pub reg-alike : (n : ℕ) → AlikeTv (reg n c) (reg n d)
-  reg-alike n = cell-alike (n % 32) (register n) h
+  reg-alike n = cell-alike (n % REGS) (register (n % REGS) (omega arith)) h
 
   pub putReg-alike : (n : ℕ) {v w : Tv} → AlikeTv v w → TwinCells (putReg n v c) (putReg n w d)
   unfolding putReg
-  putReg-alike n p = either TwinCells (eqb (n % 32) 0) h (put-alike (n % 32) (register n) p h)
+  putReg-alike n p = either TwinCells (eqb (n % REGS) 0) h (put-alike (n % REGS) (register (n % REGS) (omega arith)) p h)
 
   flag-bits : AlikeBits (bitsAt (sys PSW) c) (bitsAt (sys PSW) d)
   flag-bits = bitsAt-alike (sys PSW) refl h

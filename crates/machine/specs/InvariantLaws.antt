@@ -33,7 +33,7 @@ use Rattle.machine.specs.declared.Went.the-variants.{Next, Stop}
 use Rattle.machine.specs.declared.Spot.{Spot}
 use Rattle.machine.specs.declared.Spot.the-variants.{At, Nowhere}
 use Rattle.machine.specs.Marked.{plain, lift1, vals, markOf, Cells, both, cell, put, edit}
-use Rattle.machine.specs.Psw.{reg, putReg, Bits, EIPC, EIPSW, FEPC, FEPSW, PSW, sys, flags, flagMarks, putFlags, rulesOf, followAll, told, everyFlag, quiet, setFlags, withZ, setZ, condition, psw, putBits, putPswFlags, spread}
+use Rattle.machine.specs.Psw.{REGS, reg, putReg, Bits, EIPC, EIPSW, FEPC, FEPSW, PSW, sys, flags, flagMarks, putFlags, rulesOf, followAll, told, everyFlag, quiet, setFlags, withZ, setZ, condition, psw, putBits, putPswFlags, spread}
 use Rattle.machine.specs.Regions.{find}
 use Rattle.machine.specs.Memory.{bytesAt, littleEndian, extended, byteOf, putBytes, changed}
 use Rattle.machine.specs.Operations.{operation, second, operate}
@@ -71,25 +71,25 @@ set-good {c} g i x y z h k =
     }
 
 -- registers
-reg-limit : (i : ℕ) → i < 32 → limit i ≡ 2 ^ 32
-reg-limit i h = simp (lt-ltb i 32 h)
+pub reg-limit : (i : ℕ) → i < REGS → limit i ≡ 2 ^ 32
+reg-limit i h = simp (lt-ltb i REGS h)
 
-reg-mark-limit : (i : ℕ) → i < 32 → markLimit i ≡ 2
-reg-mark-limit i h = simp (lt-ltb i 32 h)
+pub reg-mark-limit : (i : ℕ) → i < REGS → markLimit i ≡ 2
+reg-mark-limit i h = simp (lt-ltb i REGS h)
 
 pub reg-word : {c : Cells} → GoodCells c → (n : ℕ) → IsWord (reg n c)
-reg-word {c} g n = rw (reg-limit (n % 32) (omega arith)) at (g .small (n % 32))
+reg-word {c} g n = rw (reg-limit (n % REGS) (omega arith)) at (g .small (n % REGS))
 
 pub putReg-good : {c : Cells} → GoodCells c → (n : ℕ) (v : Tv) → IsWord v → GoodCells (putReg n v c)
 unfolding putReg
-putReg-good {c} g n v h = go (eqb (n % 32) 0) refl
+putReg-good {c} g n v h = go (eqb (n % REGS) 0) refl
   where
-    go : (t : Bool) → eqb (n % 32) 0 ≡ t → GoodCells (cond t c (put (n % 32) v c))
+    go : (t : Bool) → eqb (n % REGS) 0 ≡ t → GoodCells (cond t c (put (n % REGS) v c))
     go true e = g
     go false e =
-        set-good g (n % 32) (v .val) (markOf (v .mark)) (eqb-false (n % 32) 0 e)
-        (rw (reg-limit (n % 32) (omega arith)) h)
-        (rw (reg-mark-limit (n % 32) (omega arith)) (mark-lt (v .mark)))
+        set-good g (n % REGS) (v .val) (markOf (v .mark)) (eqb-false (n % REGS) 0 e)
+        (rw (reg-limit (n % REGS) (omega arith)) h)
+        (rw (reg-mark-limit (n % REGS) (omega arith)) (mark-lt (v .mark)))
 
 -- flags
 pub putFlags-good : {c : Cells} → GoodCells c → (f m : Flags) → GoodCells (putFlags f m c)
@@ -137,7 +137,7 @@ pub putPswFlags-good : {c : Cells} → GoodCells c → (b : Bits) → GoodCells 
 putPswFlags-good g b = set-good g (sys PSW) (b .on % 2 ^ 5) (b .marks % 2 ^ 5) (λ e. omega arith) (omega arith) (omega arith)
 
 spread-marks : (v : Tv) → spread v .marks < 2 ^ 8
-spread-marks v = cond-holds (λ (n : ℕ). n < 2 ^ 8) (v .mark) {x = 255} {y = 0} (omega arith) (omega arith)
+spread-marks v = cond-holds (λ (n : ℕ). n < 2 ^ 8) (v .mark) {x = 2 ^ 8 - 1} {y = 0} (omega arith) (omega arith)
 
 pub putSpread-good : {c : Cells} {p w : ℕ} → Bank p w → GoodCells c → (v : Tv) → GoodCells (putBits (sys w) (spread v) c)
 putSpread-good k g v = putPsw-good k g (spread v) (omega arith) (spread-marks v)

@@ -27,7 +27,7 @@ use Rattle.machine.specs.declared.Open.{Open}
 use Rattle.machine.specs.declared.Answer.{Answer}
 use Rattle.machine.specs.declared.Went.the-variants.{Next, Stop}
 use Rattle.machine.specs.Marked.{Cells, cell}
-use Rattle.machine.specs.Psw.{EIPC, EIPSW, FEPC, FEPSW, ECR, PSW, sys, CELLS, reg, ELEMENT, bits, bitsAt, condition, psw, mode}
+use Rattle.machine.specs.Psw.{REGS, EIPC, EIPSW, FEPC, FEPSW, ECR, PSW, sys, CELLS, reg, ELEMENT, bits, bitsAt, condition, psw, mode}
 use Rattle.machine.specs.Memory.{changed, tests}
 use Rattle.machine.specs.Step.{Outcome, next, plus, load, store, bitwise, jmp, jarl, bcond, ldsr, system, exception, trap, illegal, return, reti, exec, execute, fetch, instruction, nmiAccepted, codeAccepted, takeNmi, takeCode, step}
 use Rattle.machine.specs.Run.{number, run, resetOpen, resetCells}
@@ -302,14 +302,14 @@ Positive k = 0 < k
 
 limit-pos : (i : ℕ) → Positive (limit i)
 limit-pos i =
-    cond-holds Positive (ltb i 32) (omega arith)
+    cond-holds Positive (ltb i REGS) (omega arith)
     (cond-holds Positive (eqb i (sys EIPC) || eqb i (sys FEPC)) (omega arith)
     (cond-holds Positive (eqb i (sys EIPSW) || eqb i (sys FEPSW)) (omega arith)
     (cond-holds Positive (eqb i (sys PSW)) (omega arith) (omega arith))))
 
 markLimit-pos : (i : ℕ) → Positive (markLimit i)
 markLimit-pos i =
-    cond-holds Positive (ltb i 32 || (eqb i (sys EIPC) || eqb i (sys FEPC))) (omega arith)
+    cond-holds Positive (ltb i REGS || (eqb i (sys EIPC) || eqb i (sys FEPC))) (omega arith)
     (cond-holds Positive (eqb i (sys EIPSW) || eqb i (sys FEPSW)) (omega arith)
     (cond-holds Positive (eqb i (sys PSW)) (omega arith) (omega arith)))
 

@@ -1,6 +1,6 @@
 -- Registers, flags and saved registers. One list of cells holds all that may be marked; what is never marked stands in `Open`.
 use mathlib.Core.Bool.{Bool, true, false, cond, _||_}
-use Prim.Native.Nat.{ℕ, _+_, _*_, _/_, _%_, _^_}
+use Prim.Native.Nat.{ℕ, _+_, _-_, _*_, _/_, _%_, _^_}
 use lib.Dec.{eqb}
 use lib.ListN.{getD, set}
 use Rattle.word.specs.declared.Computed.{Computed}
@@ -12,8 +12,11 @@ use Rattle.machine.specs.declared.Kind.the-variants.{Quiet, Logic, Mask,
 use Rattle.machine.specs.Marked.{tv, marked, Cells, both, cell, put}
 
 -- Cells 0 to 31 are r0 to r31. A register number has five bits, as in every halfword.
+abbrev pub REGS : ℕ
+REGS = 32
+
 abbrev pub reg : ℕ → Cells → Tv
-reg n c = cell c (n % 32)
+reg n c = cell c (n % REGS)
 
 -- r30 is the element pointer
 abbrev pub ELEMENT : ℕ
@@ -21,9 +24,9 @@ ELEMENT = 30
 
 -- writing r0 drops the value
 unfoldable pub putReg : ℕ → Tv → Cells → Cells
-putReg n v c = cond (eqb (n % 32) 0) c (put (n % 32) v c)
+putReg n v c = cond (eqb (n % REGS) 0) c (put (n % REGS) v c)
 
--- System register n has cell 32 + n, where what may be marked of it stands: of PSW the flags, of ECR nothing
+-- System register n has the cell n behind them, where what may be marked of it stands: of PSW the flags, of ECR nothing
 abbrev pub EIPC : ℕ
 EIPC = 0
 
@@ -43,7 +46,7 @@ abbrev pub PSW : ℕ
 PSW = 5
 
 abbrev pub sys : ℕ → ℕ
-sys n = 32 + n
+sys n = REGS + n
 
 -- all of them
 abbrev pub CELLS : ℕ
@@ -162,7 +165,7 @@ mode b = tv (b .on / 2 ^ 5 % 2 ^ 3) (marked (b .marks / 2 ^ 5 % 2 ^ 3))
 
 -- a value as eight bits, all marked or none; and eight bits as a value, marked if one of them is
 abbrev pub spread : Tv → Bits
-spread v = bits (v .val % 2 ^ 8) (cond (v .mark) (255) 0)
+spread v = bits (v .val % 2 ^ 8) (cond (v .mark) (2 ^ 8 - 1) 0)
 
 abbrev pub gathered : Bits → Tv
 gathered b = tv (b .on % 2 ^ 8) (marked (b .marks % 2 ^ 8))

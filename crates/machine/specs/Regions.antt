@@ -49,7 +49,7 @@ unused map k = eqb (base map k) 0 && (eqb (offset map k) 0 && eqb (rights map k)
 abbrev pub bounded : List ℕ → ℕ → ℕ → Bool
 bounded map n k =
     eqb (base map k % 4) 0 && (eqb (size map k % 4) 0
-    && (leb (base map k + size map k) (2 ^ 24) && (leb (offset map k + size map k) n && leb (rights map k) 7)))
+    && (leb (base map k + size map k) (2 ^ 24) && (leb (offset map k + size map k) n && leb (rights map k) (READ + WRITE + FETCH))))
 
 unfoldable pub goodRegion : List ℕ → ℕ → ℕ → Bool
 goodRegion map n k = cond (eqb (size map k) 0) (unused map k) (bounded map n k)

@@ -1,7 +1,7 @@
 -- Runs of the defined machine by computation: the order's sample, its numbers and slips, and cases of the manual. One table, one statement over all rows.
 use mathlib.Core.Bool.{Bool, true, false, _&&_}
 use mathlib.Core.List.{List, [], _∷_, _++_}
-use Prim.Native.Nat.{ℕ, _-_, _/_, _%_, _^_}
+use Prim.Native.Nat.{ℕ, _+_, _-_, _/_, _%_, _^_}
 use lib.Dec.{T, eqb}
 use lib.ListN.{replicate, getD, set, length}
 use Rattle.word.specs.Word.{overflow, nearest}
@@ -12,7 +12,7 @@ use Rattle.word.specs.Extend.{bySign}
 use Rattle.word.specs.Flags.{conditions, holds, reads}
 use Rattle.insn.specs.Coding.{listed, regOp, regCode, imm5Op, imm5Code, imm16Op, imm16Code, bitOp, bitCode, decodeExtended, decodeFields, decode, halfwords, inRange, encode}
 use Rattle.machine.specs.Psw.{psw, sys, EIPC, EIPSW, FEPC, FEPSW, PSW, putReg, rulesOf, setFlags, setZ, condition}
-use Rattle.machine.specs.Regions.{covers, findFrom, goodRegion, separate, goodMap}
+use Rattle.machine.specs.Regions.{READ, WRITE, FETCH, covers, findFrom, goodRegion, separate, goodMap}
 use Rattle.machine.specs.Memory.{bytesAt, littleEndian, extended, putBytes, changed}
 use Rattle.machine.specs.Operations.{operation, ofReg, ofImm5, ofImm16, ofShift, operate}
 use Rattle.machine.specs.Step.{reveal, place, load, store, bitwise, jmp, jarl, bcond, ldsr, system, exception, trap, illegal, return, reti, exec, execute, fetch, instruction, nmiAccepted, codeAccepted, takeNmi, takeCode, step}
@@ -51,7 +51,7 @@ pub record Start : Type 0 where
 abbrev loaded : ℕ → ℕ → List ℕ → Start
 loaded base size bytes =
     record {
-      map = base ∷ size ∷ 0 ∷ 7 ∷ replicate 12 0;
+      map = base ∷ size ∷ 0 ∷ (READ + WRITE + FETCH) ∷ replicate 12 0;
       core = goto base resetOpen;
       cells = resetCells;
       mem = both (bytes ++ replicate (size - length bytes) 0) (replicate size 0);

@@ -6,12 +6,12 @@ use lib.Dec.{eqb, ltb, leb}
 use lib.ListN.{getD, length}
 use Rattle.machine.specs.declared.Open.{Open}
 use Rattle.machine.specs.Marked.{Cells}
-use Rattle.machine.specs.Psw.{sys, EIPC, EIPSW, FEPC, FEPSW, PSW, CELLS}
+use Rattle.machine.specs.Psw.{REGS, sys, EIPC, EIPSW, FEPC, FEPSW, PSW, CELLS}
 
 -- registers, saved PCs, saved PSWs and flags have 32, 24, 8 and 5 bits; ECR's cell is not used
 abbrev pub limit : ℕ → ℕ
 limit i =
-    cond (ltb i 32) (2 ^ 32)
+    cond (ltb i REGS) (2 ^ 32)
     (cond (eqb i (sys EIPC) || eqb i (sys FEPC)) (2 ^ 24)
     (cond (eqb i (sys EIPSW) || eqb i (sys FEPSW)) (2 ^ 8)
     (cond (eqb i (sys PSW)) (2 ^ 5) 1)))
@@ -19,7 +19,7 @@ limit i =
 -- a mark is 0 or 1, or bits where the cell is by bits
 abbrev pub markLimit : ℕ → ℕ
 markLimit i =
-    cond (ltb i 32 || (eqb i (sys EIPC) || eqb i (sys FEPC))) 2
+    cond (ltb i REGS || (eqb i (sys EIPC) || eqb i (sys FEPC))) 2
     (cond (eqb i (sys EIPSW) || eqb i (sys FEPSW)) (2 ^ 8)
     (cond (eqb i (sys PSW)) (2 ^ 5) 1))
 

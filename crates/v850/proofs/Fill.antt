@@ -6,7 +6,8 @@ use native.Mathlib.Omega.{arith}
 use native.Mathlib.Numerals.{add-one}
 use lib.ListN.{length, getD, take, drop, set, length-set, length-drop, length-append, drop-of-length-le}
 use lib.Seq.{length-take-le, take-all, take-at, drop-at, drop-drop, take-suc, take-suc-set, getD-drop, sets, length-sets, sets-eq}
-use Rattle.v850.specs.Block.{bytesOfWord, bytesOf, REPORT, reportOf, wordAt, wordsFrom, bitsFrom, packBits}
+use Rattle.machine.specs.Psw.{REGS, sys, EIPC, EIPSW, FEPC, FEPSW, ECR, PSW, CELLS}
+use Rattle.v850.specs.Block.{WORDS, atPC, atPSW, atEIPC, atEIPSW, atFEPC, atFEPSW, atECR, atCode, atWaits, atRegMarks, atSysMarks, atMap, MAP-WORDS, bytesOfWord, bytesOf, REPORT, reportOf, wordAt, wordsFrom, bitsFrom, packBits}
 use Rattle.v850.specs.PackLaws.{bytes-more, bytes-length}
 use Rattle.v850.specs.BlockLaws.{Marks, pack-more, pack-word}
 
@@ -63,10 +64,10 @@ pub stored-all : (vs l : List ℕ) (i : ℕ) → i + length vs ≡ length l → 
 stored-all vs l i e = sym (take-all (length l) (sets l i vs) (omega (arith, length-sets l i vs))) ∙ stored-part vs l i (length l) (omega arith) e
 
 -- the six cells after the registers
-pub six-stored : (l s : List ℕ) (a b d e f g : ℕ) → length l ≡ 38 → take 32 l ≡ s
-    → set (set (set (set (set (set l 32 a) 33 b) 34 d) 35 e) 36 f) 37 g ≡ s ++ (a ∷ b ∷ d ∷ e ∷ f ∷ g ∷ [])
+pub six-stored : (l s : List ℕ) (a b d e f g : ℕ) → length l ≡ CELLS → take REGS l ≡ s
+    → set (set (set (set (set (set l (sys EIPC) a) (sys EIPSW) b) (sys FEPC) d) (sys FEPSW) e) (sys ECR) f) (sys PSW) g ≡ s ++ (a ∷ b ∷ d ∷ e ∷ f ∷ g ∷ [])
 six-stored l s a b d e f g h p =
-    stored-all (a ∷ b ∷ d ∷ e ∷ f ∷ g ∷ []) l 32 (sym h) ∙ ap (λ (r : List ℕ). r ++ (a ∷ b ∷ d ∷ e ∷ f ∷ g ∷ [])) p
+    stored-all (a ∷ b ∷ d ∷ e ∷ f ∷ g ∷ []) l REGS (sym h) ∙ ap (λ (r : List ℕ). r ++ (a ∷ b ∷ d ∷ e ∷ f ∷ g ∷ [])) p
 
 -- the four bytes of a word
 pub four-stored : (l : List ℕ) (k a b d e : ℕ) → k + 3 < length l
@@ -107,20 +108,20 @@ two-words b b′ b″ x y h p q =
     ∙ ap (λ (s : List ℕ). bytesOfWord x ++ (bytesOfWord y ++ s)) (drop-drop 4 4 b ∙ drop-of-length-le b {i = 8} (omega arith))
 
 -- a turn of the loop that gathers the registers' marks, from the last one down
-pub marks-turn : (m : List ℕ) (i b r : ℕ) → Marks m → 0 < i → i ≤ 32 → b ≡ getD m (i - 1) 0 → r ≡ packBits (drop i (take 32 m))
-    → (b + 2 * r ≡ packBits (drop (i - 1) (take 32 m))) × (b + 2 * r < 2 ^ 32)
+pub marks-turn : (m : List ℕ) (i b r : ℕ) → Marks m → 0 < i → i ≤ REGS → b ≡ getD m (i - 1) 0 → r ≡ packBits (drop i (take REGS m))
+    → (b + 2 * r ≡ packBits (drop (i - 1) (take REGS m))) × (b + 2 * r < 2 ^ 32)
 marks-turn m i b r h z l p q =
     let e : suc (i - 1) ≡ i = omega arith in
-    let g : b + 2 * r ≡ packBits (drop (i - 1) (take 32 m)) =
-    ap (λ (x : ℕ). x + 2 * r) p ∙ ap (λ (x : ℕ). getD m (i - 1) 0 + 2 * x) (q ∙ ap (λ (k : ℕ). packBits (drop k (take 32 m))) (sym e))
+    let g : b + 2 * r ≡ packBits (drop (i - 1) (take REGS m)) =
+    ap (λ (x : ℕ). x + 2 * r) p ∙ ap (λ (x : ℕ). getD m (i - 1) 0 + 2 * x) (q ∙ ap (λ (k : ℕ). packBits (drop k (take REGS m))) (sym e))
     ∙ pack-more m (i - 1) h (omega arith) in
     (g, subst (λ (x : ℕ). x < 2 ^ 32) (sym g) (pack-word m (i - 1) h))
 
 -- the eleven words between the registers and the map: PSW and the words of marks are computed
 pub eleven-stored : (l s map : List ℕ) (pc psw psw′ eipc eipsw fepc fepsw ecr code waits regs regs′ marks marks′ : ℕ)
-    → length l ≡ 59 → take 32 l ≡ s → psw ≡ psw′ → regs ≡ regs′ → marks ≡ marks′
-    → take 43
-    (set (set (set (set (set (set (set (set (set (set (set l 32 pc) 33 psw) 34 eipc) 35 eipsw) 36 fepc) 37 fepsw) 38 ecr) 39 code) 40 waits) 41 regs) 42 marks)
+    → length l ≡ WORDS → take REGS l ≡ s → psw ≡ psw′ → regs ≡ regs′ → marks ≡ marks′
+    → take atMap
+    (set (set (set (set (set (set (set (set (set (set (set l atPC pc) atPSW psw) atEIPC eipc) atEIPSW eipsw) atFEPC fepc) atFEPSW fepsw) atECR ecr) atCode code) atWaits waits) atRegMarks regs) atSysMarks marks)
     ++ map
     ≡ s ++ (pc ∷ psw′ ∷ eipc ∷ eipsw ∷ fepc ∷ fepsw ∷ ecr ∷ code ∷ waits ∷ regs′ ∷ marks′ ∷ map)
 eleven-stored l s map pc psw psw′ eipc eipsw fepc fepsw ecr code waits regs regs′ marks marks′ h p e f g =
@@ -128,37 +129,37 @@ eleven-stored l s map pc psw psw′ eipc eipsw fepc fepsw ecr code waits regs re
       e,
       f,
       g,
-      stored-part (pc ∷ psw′ ∷ eipc ∷ eipsw ∷ fepc ∷ fepsw ∷ ecr ∷ code ∷ waits ∷ regs′ ∷ marks′ ∷ []) l 32 43 (omega arith) refl,
+      stored-part (pc ∷ psw′ ∷ eipc ∷ eipsw ∷ fepc ∷ fepsw ∷ ecr ∷ code ∷ waits ∷ regs′ ∷ marks′ ∷ []) l REGS atMap (omega arith) refl,
       p,
     )
     (append-assoc s (pc ∷ psw′ ∷ eipc ∷ eipsw ∷ fepc ∷ fepsw ∷ ecr ∷ code ∷ waits ∷ regs′ ∷ marks′ ∷ []) map)
 
 -- the words up to the map, and k words of the map
 abbrev withMap : List ℕ → List ℕ → ℕ → List ℕ
-withMap l map n = take 43 l ++ take (n - 43) map
+withMap l map n = take atMap l ++ take (n - atMap) map
 
 pub record Mapped (l₀ map : List ℕ) (k : ℕ) (l : List ℕ) : Type 0 where
-  pub below : k ≤ 16
-  pub filled : Filled (withMap l₀ map) 59 59 (43 + k) l
+  pub below : k ≤ MAP-WORDS
+  pub filled : Filled (withMap l₀ map) WORDS WORDS (atMap + k) l
 
-pub mapped-none : (l map : List ℕ) → length l ≡ 59 → Mapped l map 0 l
+pub mapped-none : (l map : List ℕ) → length l ≡ WORDS → Mapped l map 0 l
 mapped-none l map h =
-    record { below = omega arith; filled = record { below = omega arith; long = h; first = sym (append-nil (take 43 l)) } }
+    record { below = omega arith; filled = record { below = omega arith; long = h; first = sym (append-nil (take atMap l)) } }
 
-pub mapped-next : {l₀ l : List ℕ} (map : List ℕ) (k : ℕ) → k < 16 → length map ≡ 16 → Mapped l₀ map k l → Mapped l₀ map (k + 1) (set l (43 + k) (getD map k 0))
+pub mapped-next : {l₀ l : List ℕ} (map : List ℕ) (k : ℕ) → k < MAP-WORDS → length map ≡ MAP-WORDS → Mapped l₀ map k l → Mapped l₀ map (k + 1) (set l (atMap + k) (getD map k 0))
 mapped-next {l₀} {l} map k h n p = record { below = omega arith; filled = next }
   where
-    more : withMap l₀ map (suc (43 + k)) ≡ withMap l₀ map (43 + k) ++ (getD map k 0 ∷ [])
+    more : withMap l₀ map (suc (atMap + k)) ≡ withMap l₀ map (atMap + k) ++ (getD map k 0 ∷ [])
     more =
-        let a : suc (43 + k) - 43 ≡ suc k = omega arith in
-        let b : 43 + k - 43 ≡ k = omega arith in
-        rw (a, b, take-more map k (omega arith)) (sym (append-assoc (take 43 l₀) (take k map) (getD map k 0 ∷ [])))
+        let a : suc (atMap + k) - atMap ≡ suc k = omega arith in
+        let b : atMap + k - atMap ≡ k = omega arith in
+        rw (a, b, take-more map k (omega arith)) (sym (append-assoc (take atMap l₀) (take k map) (getD map k 0 ∷ [])))
 
-    next : Filled (withMap l₀ map) 59 59 (43 + (k + 1)) (set l (43 + k) (getD map k 0))
+    next : Filled (withMap l₀ map) WORDS WORDS (atMap + (k + 1)) (set l (atMap + k) (getD map k 0))
     next =
-        subst (λ (j : ℕ). Filled (withMap l₀ map) 59 59 j (set l (43 + k) (getD map k 0))) {x = 43 + k + 1} {y = 43 + (k + 1)} (omega arith)
-        (filled-next (withMap l₀ map) 59 59 (43 + k) _ _ l (omega arith) (omega arith) more refl (p .filled))
+        subst (λ (j : ℕ). Filled (withMap l₀ map) WORDS WORDS j (set l (atMap + k) (getD map k 0))) {x = atMap + k + 1} {y = atMap + (k + 1)} (omega arith)
+        (filled-next (withMap l₀ map) WORDS WORDS (atMap + k) _ _ l (omega arith) (omega arith) more refl (p .filled))
 
-pub mapped-all : {l₀ l : List ℕ} (map : List ℕ) (k : ℕ) → 16 ≤ k → length map ≡ 16 → Mapped l₀ map k l → l ≡ take 43 l₀ ++ map
+pub mapped-all : {l₀ l : List ℕ} (map : List ℕ) (k : ℕ) → MAP-WORDS ≤ k → length map ≡ MAP-WORDS → Mapped l₀ map k l → l ≡ take atMap l₀ ++ map
 mapped-all {l₀} {l} map k h n p =
-    filled-all (withMap l₀ map) 59 (43 + k) l (omega arith) (p .filled) ∙ ap (λ (s : List ℕ). take 43 l₀ ++ s) (take-all 16 map (omega arith))
+    filled-all (withMap l₀ map) WORDS (atMap + k) l (omega arith) (p .filled) ∙ ap (λ (s : List ℕ). take atMap l₀ ++ s) (take-all MAP-WORDS map (omega arith))

@@ -6,6 +6,7 @@ use Prim.Native.Nat.{ℕ, _<_, _≤_}
 use lib.ListN.{getD, length}
 use Rattle.word.specs.Shifts.{bit}
 use Rattle.machine.specs.Marked.{marked}
+use Rattle.machine.specs.Psw.{REGS}
 use Rattle.machine.specs.Regions.{goodMap}
 use Rattle.v850.specs.Block.{atPC, atPSW, atEIPC, atEIPSW, atFEPC, atFEPSW, atECR, atCode, atWaits, atRegMarks, atSysMarks, atMap, byte, mapIn, goodState}
 use Rattle.v850.specs.Entry.{Left, goodSizes, wordsIn}
@@ -27,7 +28,7 @@ pub record AlikeWords (v w : List ℕ) : Type 0 where
   pub waits : SameWord v w atWaits
   pub pc : SameWord v w atPC
   pub ecr : SameWord v w atECR
-  pub regs : (n : ℕ) → n < 32 → bit n (getD v atRegMarks 0) ≡ false → SameWord v w n
+  pub regs : (n : ℕ) → n < REGS → bit n (getD v atRegMarks 0) ≡ false → SameWord v w n
   pub psw : SameBits v w atPSW (byte 0 (getD v atSysMarks 0))
   pub eipsw : SameBits v w atEIPSW (byte 1 (getD v atSysMarks 0))
   pub fepsw : SameBits v w atFEPSW (byte 2 (getD v atSysMarks 0))

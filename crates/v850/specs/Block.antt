@@ -6,7 +6,7 @@ use lib.Dec.{eqb, ltb, leb}
 use lib.ListN.{getD, take, drop}
 use Rattle.machine.specs.declared.Open.{Open}
 use Rattle.machine.specs.Marked.{Cells, both}
-use Rattle.machine.specs.Psw.{sys, EIPC, EIPSW, FEPC, FEPSW, psw}
+use Rattle.machine.specs.Psw.{REGS, sys, EIPC, EIPSW, FEPC, FEPSW, psw}
 use Rattle.machine.specs.WellFormed.{goodCode}
 
 -- Words as bytes, and bytes as words
@@ -68,9 +68,12 @@ atRegMarks = 41
 abbrev pub atSysMarks : ℕ
 atSysMarks = 42
 
--- sixteen words
+-- sixteen words, to the block's end
 abbrev pub atMap : ℕ
 atMap = 43
+
+abbrev pub MAP-WORDS : ℕ
+MAP-WORDS = 16
 
 -- The report: how many bytes there are, and which word is which
 abbrev pub REPORT : ℕ
@@ -114,11 +117,11 @@ bitsFrom w i (suc n) = w / 2 ^ i % 2 ∷ bitsFrom w (suc i) n
 -- cells: r0 to r31, then by system number EIPC, EIPSW, FEPC, FEPSW, nothing for ECR, the flags of PSW
 abbrev pub numsIn : List ℕ → List ℕ
 numsIn ws =
-    take 32 ws ++ (getD ws atEIPC 0 ∷ getD ws atEIPSW 0 ∷ getD ws atFEPC 0 ∷ getD ws atFEPSW 0 ∷ 0 ∷ getD ws atPSW 0 % 2 ^ 5 ∷ [])
+    take REGS ws ++ (getD ws atEIPC 0 ∷ getD ws atEIPSW 0 ∷ getD ws atFEPC 0 ∷ getD ws atFEPSW 0 ∷ 0 ∷ getD ws atPSW 0 % 2 ^ 5 ∷ [])
 
 abbrev pub marksIn : List ℕ → List ℕ
 marksIn ws =
-    bitsFrom (getD ws atRegMarks 0) 0 32
+    bitsFrom (getD ws atRegMarks 0) 0 REGS
     ++ (byte 3 (getD ws atSysMarks 0) % 2 ∷ byte 1 (getD ws atSysMarks 0) ∷ byte 3 (getD ws atSysMarks 0) / 2 % 2
     ∷ byte 2 (getD ws atSysMarks 0) ∷ 0 ∷ byte 0 (getD ws atSysMarks 0) % 2 ^ 5 ∷ [])
 
@@ -132,11 +135,11 @@ packBits (b ∷ bs) = b + 2 * packBits bs
 
 abbrev pub wordsOf : Open → Cells → List ℕ → List ℕ
 wordsOf o c map =
-    take 32 (c .nums)
+    take REGS (c .nums)
     ++ (o .pc ∷ psw o c .on
     ∷ getD (c .nums) (sys EIPC) 0 ∷ getD (c .nums) (sys EIPSW) 0 ∷ getD (c .nums) (sys FEPC) 0 ∷ getD (c .nums) (sys FEPSW) 0
     ∷ o .ecr ∷ o .code ∷ (o .halted + 2 ^ 8 * o .nmi)
-    ∷ packBits (take 32 (c .marks))
+    ∷ packBits (take REGS (c .marks))
     ∷ (psw o c .marks + 2 ^ 8 * getD (c .marks) (sys EIPSW) 0 + 2 ^ 16 * getD (c .marks) (sys FEPSW) 0
     + 2 ^ 24 * (getD (c .marks) (sys EIPC) 0 + 2 * getD (c .marks) (sys FEPC) 0))
     ∷ map)

@@ -2,25 +2,26 @@
 use mathlib.Core.Path.{_≡_, refl, sym, ap, ap₂, _∙_, subst}
 use mathlib.Core.Bool.{Bool, true, false, _&&_}
 use mathlib.Core.List.{List, [], _∷_, _++_}
-use Prim.Native.Nat.{ℕ, zero, suc, _+_, _-_, _*_, _/_, _%_, _^_, _≤_, _<_}
+use Prim.Native.Nat.{ℕ, suc, _+_, _*_, _/_, _%_, _^_, _≤_, _<_}
 use native.Mathlib.Omega.{arith}
 use native.Mathlib.Nat.{lt-of-lt-of-le}
-use lib.Dec.{ltb}
-use lib.Pow.{pow-mono, shr-shr}
-use lib.ListN.{length, getD, take, drop, length-drop, length-append, take-append-drop, drop-of-length-le, List·getD-append}
-use lib.Seq.{length-take-le, take-at, getD-take, getD-drop, getD-append-add, drop-append-add, drop-cons, slice-cons, length-slice}
-use borrow.Author.Tests.{ltb-true, ltb-false, lt-ltb, leb-true, le-leb, eqb-true, eq-eqb}
+use lib.Pow.{pow-mono}
+use lib.ListN.{length, getD, take, drop, length-drop, length-append, List·getD-append}
+use lib.Seq.{length-take-le, take-at, getD-take, getD-drop, slice-cons, length-slice}
+use borrow.Author.Tests.{ltb-true, lt-ltb, leb-true, le-leb, eqb-true, eq-eqb}
 use Rattle.machine.specs.declared.Open.{Open}
 use Rattle.machine.specs.Marked.{Cells, both}
-use Rattle.machine.specs.Psw.{sys, EIPC, EIPSW, FEPC, FEPSW, PSW, psw}
+use Rattle.machine.specs.Psw.{REGS, sys, EIPC, EIPSW, FEPC, FEPSW, ECR, PSW, CELLS, psw}
 use Rattle.machine.specs.WellFormed.{WellFormed, limit, markLimit, goodCode}
-use Rattle.machine.specs.InvariantLaws.{code-target}
+use Rattle.machine.specs.InvariantLaws.{reg-limit, reg-mark-limit, code-target}
 use Rattle.machine.specs.Invariants.{reset-well-formed}
-use Rattle.v850.specs.Block.{bitsFrom, packBits, byte, atPC, atPSW, atEIPC, atEIPSW, atFEPC, atFEPSW, atECR, atCode, atWaits, atRegMarks, atSysMarks, atMap, WORDS, mapIn, coreIn, numsIn, marksIn, cellsIn, wordsOf, goodState}
-use Rattle.v850.specs.PackLaws.{Below, below-append, below-cons, below-take, whole, parts, pack-lt, bits-length, bits-below, bits-pack, pack-bits}
+use Rattle.v850.specs.Block.{bitsFrom, packBits, byte, atPC, atPSW, atEIPC, atEIPSW, atFEPC, atFEPSW, atECR, atCode, atWaits, atRegMarks, atSysMarks, atMap, MAP-WORDS, WORDS, mapIn, coreIn, numsIn, marksIn, cellsIn, wordsOf, goodState}
+use Rattle.v850.specs.PackLaws.{Below, below-append, below-cons, below-take, pack-lt, bits-length, bits-below, bits-pack, pack-bits}
+use Rattle.v850.specs.PartLaws.{psw-parts, psw-whole, waits-parts, waits-whole, marks-parts, marks-whole}
+use Rattle.v850.specs.Places.{after, drop-after, of-cells, six-there, eleven-there}
 
 -- the map in a block's words
-pub map-long : (ws : List ℕ) → length ws ≡ WORDS → length (mapIn ws) ≡ 16
+pub map-long : (ws : List ℕ) → length ws ≡ WORDS → length (mapIn ws) ≡ MAP-WORDS
 map-long ws h = omega (arith, length-drop atMap ws)
 
 pub map-words : {ws : List ℕ} → Below (2 ^ 32) ws → Below (2 ^ 32) (mapIn ws)
@@ -28,17 +29,17 @@ map-words {ws} h = record { at = λ i. rw (getD-drop atMap ws i 0) (h .at (atMap
 
 -- marks of registers and of saved PCs are 0 or 1
 pub record Marks (m : List ℕ) : Type 0 where
-  pub long : length m ≡ 38
-  pub regs : (i : ℕ) → i < 32 → getD m i 0 < 2
+  pub long : length m ≡ CELLS
+  pub regs : (i : ℕ) → i < REGS → getD m i 0 < 2
   pub eipc : getD m (sys EIPC) 0 < 2
   pub fepc : getD m (sys FEPC) 0 < 2
 
 pub formed-marks : {o : Open} {c : Cells} → WellFormed o c → Marks (c .marks)
 formed-marks {o} {c} w =
-    record { long = w .cells .marks; regs = λ i h. reg-mark i h (w .cells .small-marks i); eipc = w .cells .small-marks 32; fepc = w .cells .small-marks 34 }
+    record { long = w .cells .marks; regs = λ i h. reg-mark i h (w .cells .small-marks i); eipc = w .cells .small-marks (sys EIPC); fepc = w .cells .small-marks (sys FEPC) }
   where
-    reg-mark : (i : ℕ) → i < 32 → getD (c .marks) i 0 < markLimit i → getD (c .marks) i 0 < 2
-    reg-mark i h l = simp (lt-ltb i 32 h) at l
+    reg-mark : (i : ℕ) → i < REGS → getD (c .marks) i 0 < markLimit i → getD (c .marks) i 0 < 2
+    reg-mark i h l = rw (reg-mark-limit i h) at l
 
 -- the word of the system registers' marks
 abbrev pub sysMarks : List ℕ → ℕ
@@ -47,158 +48,59 @@ sysMarks m =
     + 2 ^ 24 * (getD m (sys EIPC) 0 + 2 * getD m (sys FEPC) 0)
 
 -- the registers' marks
-regs-bits : (m : List ℕ) → Marks m → Below 2 (take 32 m)
-regs-bits m h = below-take 2 m 32 (omega arith) (h .regs)
+regs-bits : (m : List ℕ) → Marks m → Below 2 (take REGS m)
+regs-bits m h = below-take 2 m REGS (omega arith) (h .regs)
 
 -- one more of them at the low end
-pub pack-more : (m : List ℕ) (i : ℕ) → Marks m → i < 32 → getD m i 0 + 2 * packBits (drop (suc i) (take 32 m)) ≡ packBits (drop i (take 32 m))
+pub pack-more : (m : List ℕ) (i : ℕ) → Marks m → i < REGS → getD m i 0 + 2 * packBits (drop (suc i) (take REGS m)) ≡ packBits (drop i (take REGS m))
 unfolding packBits
-pack-more m i h l = sym (ap packBits (slice-cons i 32 m 0 l (omega (arith, h .long))))
+pack-more m i h l = sym (ap packBits (slice-cons i REGS m 0 l (omega (arith, h .long))))
 
-pub pack-word : (m : List ℕ) (i : ℕ) → Marks m → packBits (drop i (take 32 m)) < 2 ^ 32
+pub pack-word : (m : List ℕ) (i : ℕ) → Marks m → packBits (drop i (take REGS m)) < 2 ^ 32
 pack-word m i h =
     lt-of-lt-of-le
-    (pack-lt (drop i (take 32 m)) (record { at = λ k. subst (λ (x : ℕ). x < 2) (sym (getD-drop i (take 32 m) k 0)) (regs-bits m h .at (i + k)) }))
-    (pow-mono {i = length (drop i (take 32 m))} {j = 32} (omega (arith, length-slice i 32 m (omega (arith, h .long)))))
-
--- PSW, the word of waits and the word of marks, apart and together
-psw-parts : (f np ep id : ℕ) → np < 2 → ep < 2 → id < 2
-    → ((f % 2 ^ 5 + 2 ^ 5 * (id % 2) + 2 ^ 6 * (ep % 2) + 2 ^ 7 * (np % 2)) / 2 ^ 7 % 2 ≡ np)
-    × ((f % 2 ^ 5 + 2 ^ 5 * (id % 2) + 2 ^ 6 * (ep % 2) + 2 ^ 7 * (np % 2)) / 2 ^ 6 % 2 ≡ ep)
-    × ((f % 2 ^ 5 + 2 ^ 5 * (id % 2) + 2 ^ 6 * (ep % 2) + 2 ^ 7 * (np % 2)) / 2 ^ 5 % 2 ≡ id)
-    × ((f % 2 ^ 5 + 2 ^ 5 * (id % 2) + 2 ^ 6 * (ep % 2) + 2 ^ 7 * (np % 2)) % 2 ^ 5 ≡ f % 2 ^ 5)
-    × (f % 2 ^ 5 + 2 ^ 5 * (id % 2) + 2 ^ 6 * (ep % 2) + 2 ^ 7 * (np % 2) ≤ 0xFF)
-psw-parts f np ep id h k l = (omega arith, omega arith, omega arith, omega arith, omega arith)
-
-psw-whole : (x : ℕ) → x ≤ 0xFF → x % 2 ^ 5 % 2 ^ 5 + 2 ^ 5 * (x / 2 ^ 5 % 2 % 2) + 2 ^ 6 * (x / 2 ^ 6 % 2 % 2) + 2 ^ 7 * (x / 2 ^ 7 % 2 % 2) ≡ x
-psw-whole x h =
-    add x (x % 2 ^ 5 % 2 ^ 5) (x / 2 ^ 5) (x / 2 ^ 5 % 2 % 2) (x / 2 ^ 6) (x / 2 ^ 6 % 2 % 2) (x / 2 ^ 7) (x / 2 ^ 7 % 2 % 2)
-    (omega arith) (omega (arith, shr-shr x 5 1)) (omega (arith, shr-shr x 6 1)) (omega arith)
-  where
-    add : (x r q b q′ b′ q″ b″ : ℕ) → x ≡ r + 2 ^ 5 * q → q ≡ b + 2 * q′ → q′ ≡ b′ + 2 * q″ → q″ ≡ b″ → r + 2 ^ 5 * b + 2 ^ 6 * b′ + 2 ^ 7 * b″ ≡ x
-    add x r q b q′ b′ q″ b″ h k l m = omega arith
-
-byte-0 : (x : ℕ) → byte 0 x ≡ x % 2 ^ 8
-byte-0 x = omega arith
-
-waits-parts : (h n : ℕ) → h < 2 → n < 2
-    → (byte 0 (h + 2 ^ 8 * n) ≡ h) × (byte 1 (h + 2 ^ 8 * n) ≡ n) × (byte 2 (h + 2 ^ 8 * n) ≡ 0) × (byte 3 (h + 2 ^ 8 * n) ≡ 0)
-waits-parts h n p q = (omega arith, omega arith, omega arith, omega arith)
-
-waits-whole : (x : ℕ) → x < 2 ^ 32 → byte 2 x ≡ 0 → byte 3 x ≡ 0 → byte 0 x + 2 ^ 8 * byte 1 x ≡ x
-waits-whole x h p q = omega (arith, whole x h)
-
-marks-parts : (p e f a b : ℕ) → e < 2 ^ 8 → f < 2 ^ 8 → a < 2 → b < 2
-    → (byte 0 (p % 2 ^ 5 + 2 ^ 8 * e + 2 ^ 16 * f + 2 ^ 24 * (a + 2 * b)) ≡ p % 2 ^ 5)
-    × (byte 1 (p % 2 ^ 5 + 2 ^ 8 * e + 2 ^ 16 * f + 2 ^ 24 * (a + 2 * b)) ≡ e)
-    × (byte 2 (p % 2 ^ 5 + 2 ^ 8 * e + 2 ^ 16 * f + 2 ^ 24 * (a + 2 * b)) ≡ f)
-    × (byte 3 (p % 2 ^ 5 + 2 ^ 8 * e + 2 ^ 16 * f + 2 ^ 24 * (a + 2 * b)) ≡ a + 2 * b)
-marks-parts p e f a b he hf ha hb =
-    let x : p % 2 ^ 5 + 2 ^ 8 * e + 2 ^ 16 * f + 2 ^ 24 * (a + 2 * b) ≡ p % 2 ^ 5 + 2 ^ 8 * (e + 2 ^ 8 * (f + 2 ^ 8 * (a + 2 * b))) = omega arith in
-    let l = parts (p % 2 ^ 5) e f (a + 2 * b) (omega arith) he hf (omega arith) in
-    rw x (byte-0 _ ∙ ap (λ (s : List ℕ). getD s 0 0) l, ap (λ (s : List ℕ). getD s 1 0) l, ap (λ (s : List ℕ). getD s 2 0) l, ap (λ (s : List ℕ). getD s 3 0) l)
-
-marks-whole : (x : ℕ) → x < 2 ^ 32 → byte 0 x < 2 ^ 5 → byte 3 x ≤ 3
-    → byte 0 x % 2 ^ 5 % 2 ^ 5 + 2 ^ 8 * byte 1 x + 2 ^ 16 * byte 2 x + 2 ^ 24 * (byte 3 x % 2 + 2 * (byte 3 x / 2 % 2)) ≡ x
-marks-whole x h p q =
-    add x (byte 0 x) (byte 1 x) (byte 2 x) (byte 3 x) (byte 0 x % 2 ^ 5 % 2 ^ 5) (byte 3 x % 2) (byte 3 x / 2 % 2)
-    (sym (whole x h) ∙ ap (λ (y : ℕ). y + 2 ^ 8 * (byte 1 x + 2 ^ 8 * (byte 2 x + 2 ^ 8 * byte 3 x))) (sym (byte-0 x)))
-    (omega arith) (omega arith)
-  where
-    add : (x b0 b1 b2 b3 r s t : ℕ) → x ≡ b0 + 2 ^ 8 * (b1 + 2 ^ 8 * (b2 + 2 ^ 8 * b3)) → r ≡ b0 → b3 ≡ s + 2 * t
-        → r + 2 ^ 8 * b1 + 2 ^ 16 * b2 + 2 ^ 24 * (s + 2 * t) ≡ x
-    add x b0 b1 b2 b3 r s t h k l = omega arith
-
--- Lists of cells and of words, by places
-after : (s t : List ℕ) (j : ℕ) → length s ≡ 32 → getD (s ++ t) (32 + j) 0 ≡ getD t j 0
-after s t j h = ap (λ (k : ℕ). getD (s ++ t) (k + j) 0) (sym h) ∙ getD-append-add s t j 0
-
-drop-after : (s t : List ℕ) (j : ℕ) → length s ≡ 32 → drop (32 + j) (s ++ t) ≡ drop j t
-drop-after s t j h = ap (λ (k : ℕ). drop (k + j) (s ++ t)) (sym h) ∙ drop-append-add s t j
-
--- what holds of the first 32, of the six after them and of zeros past the end holds everywhere
-each : (P : ℕ → ℕ → Type 0) (s : List ℕ) (a b d e f g : ℕ) → length s ≡ 32 → ((i : ℕ) → i < 32 → P i (getD s i 0))
-    → P 32 a → P 33 b → P 34 d → P 35 e → P 36 f → P 37 g → ((i : ℕ) → 38 ≤ i → P i 0)
-    → (i : ℕ) → P i (getD (s ++ (a ∷ b ∷ d ∷ e ∷ f ∷ g ∷ [])) i 0)
-each P s a b d e f g h hs ha hb hd he hf hg hz i = cases (ltb i 32) refl
-  where
-    tail : (j : ℕ) → P (32 + j) (getD (a ∷ b ∷ d ∷ e ∷ f ∷ g ∷ []) j 0)
-    tail zero = ha
-    tail (suc zero) = hb
-    tail (suc (suc zero)) = hd
-    tail (suc (suc (suc zero))) = he
-    tail (suc (suc (suc (suc zero)))) = hf
-    tail (suc (suc (suc (suc (suc zero))))) = hg
-    tail (suc (suc (suc (suc (suc (suc j)))))) = hz _ (omega arith)
-
-    cases : (t : Bool) → ltb i 32 ≡ t → P i (getD (s ++ (a ∷ b ∷ d ∷ e ∷ f ∷ g ∷ [])) i 0)
-    cases true q =
-        let l : i < length s = omega (arith, ltb-true i 32 q) in
-        subst (P i) (sym (List·getD-append s (a ∷ b ∷ d ∷ e ∷ f ∷ g ∷ []) 0 i l)) (hs i (ltb-true i 32 q))
-    cases false q =
-        subst (λ (k : ℕ). P k (getD (s ++ (a ∷ b ∷ d ∷ e ∷ f ∷ g ∷ [])) k 0)) {x = 32 + (i - 32)} {y = i} (omega (arith, ltb-false i 32 q))
-        (subst (P (32 + (i - 32))) (sym (after s (a ∷ b ∷ d ∷ e ∷ f ∷ g ∷ []) (i - 32) h)) (tail (i - 32)))
-
--- n numbers of a list from number k on
-abbrev reads : List ℕ → ℕ → ℕ → List ℕ
-reads l k zero = []
-reads l k (suc n) = getD l k 0 ∷ reads l (suc k) n
-
-drop-reads : (l : List ℕ) (k n : ℕ) → k + n ≤ length l → drop k l ≡ reads l k n ++ drop (k + n) l
-drop-reads l k zero h = ap (λ (j : ℕ). drop j l) {x = k} {y = k + 0} (omega arith)
-drop-reads l k (suc n) h =
-    drop-cons l k 0 (omega arith)
-    ∙ ap (λ (s : List ℕ). getD l k 0 ∷ s) (drop-reads l (suc k) n (omega arith) ∙ ap (λ (j : ℕ). reads l (suc k) n ++ drop j l) {x = suc k + n} {y = k + suc n} (omega arith))
-
--- a list of cells is its first 32 numbers and the six after them; a list of words has eleven between the registers and the map
-six-there : (l : List ℕ) → length l ≡ 38 → take 32 l ++ reads l 32 6 ≡ l
-six-there l h =
-    ap (λ (s : List ℕ). take 32 l ++ s)
-    (sym (drop-reads l 32 6 (omega arith) ∙ ap (λ (s : List ℕ). reads l 32 6 ++ s) (drop-of-length-le l {i = 38} (omega arith))))
-    ∙ take-append-drop 32 l
-
-eleven-there : (l : List ℕ) → length l ≡ 59 → take 32 l ++ (reads l 32 11 ++ drop 43 l) ≡ l
-eleven-there l h = ap (λ (s : List ℕ). take 32 l ++ s) (sym (drop-reads l 32 11 (omega arith))) ∙ take-append-drop 32 l
+    (pack-lt (drop i (take REGS m)) (record { at = λ k. subst (λ (x : ℕ). x < 2) (sym (getD-drop i (take REGS m) k 0)) (regs-bits m h .at (i + k)) }))
+    (pow-mono {i = length (drop i (take REGS m))} {j = 32} (omega (arith, length-slice i REGS m (omega (arith, h .long)))))
 
 -- THE THEOREMS
 
 -- What a well-formed state puts together is taken apart as that state.
 module _ (o : Open) (c : Cells) (map : List ℕ) (w : WellFormed o c) where
-  regs-long : length (take 32 (c .nums)) ≡ 32
-  regs-long = length-take-le 32 (c .nums) (omega (arith, w .cells .nums))
+  regs-long : length (take REGS (c .nums)) ≡ REGS
+  regs-long = length-take-le REGS (c .nums) (omega (arith, w .cells .nums))
 
   the-pc : getD (wordsOf o c map) atPC 0 ≡ o .pc
-  the-pc = after (take 32 (c .nums)) _ 0 regs-long
+  the-pc = after (take REGS (c .nums)) _ 0 regs-long
 
   the-psw : getD (wordsOf o c map) atPSW 0 ≡ psw o c .on
-  the-psw = after (take 32 (c .nums)) _ 1 regs-long
+  the-psw = after (take REGS (c .nums)) _ 1 regs-long
 
   the-eipc : getD (wordsOf o c map) atEIPC 0 ≡ getD (c .nums) (sys EIPC) 0
-  the-eipc = after (take 32 (c .nums)) _ 2 regs-long
+  the-eipc = after (take REGS (c .nums)) _ 2 regs-long
 
   the-eipsw : getD (wordsOf o c map) atEIPSW 0 ≡ getD (c .nums) (sys EIPSW) 0
-  the-eipsw = after (take 32 (c .nums)) _ 3 regs-long
+  the-eipsw = after (take REGS (c .nums)) _ 3 regs-long
 
   the-fepc : getD (wordsOf o c map) atFEPC 0 ≡ getD (c .nums) (sys FEPC) 0
-  the-fepc = after (take 32 (c .nums)) _ 4 regs-long
+  the-fepc = after (take REGS (c .nums)) _ 4 regs-long
 
   the-fepsw : getD (wordsOf o c map) atFEPSW 0 ≡ getD (c .nums) (sys FEPSW) 0
-  the-fepsw = after (take 32 (c .nums)) _ 5 regs-long
+  the-fepsw = after (take REGS (c .nums)) _ 5 regs-long
 
   the-ecr : getD (wordsOf o c map) atECR 0 ≡ o .ecr
-  the-ecr = after (take 32 (c .nums)) _ 6 regs-long
+  the-ecr = after (take REGS (c .nums)) _ 6 regs-long
 
   the-code : getD (wordsOf o c map) atCode 0 ≡ o .code
-  the-code = after (take 32 (c .nums)) _ 7 regs-long
+  the-code = after (take REGS (c .nums)) _ 7 regs-long
 
   the-waits : getD (wordsOf o c map) atWaits 0 ≡ o .halted + 2 ^ 8 * o .nmi
-  the-waits = after (take 32 (c .nums)) _ 8 regs-long
+  the-waits = after (take REGS (c .nums)) _ 8 regs-long
 
-  the-reg-marks : getD (wordsOf o c map) atRegMarks 0 ≡ packBits (take 32 (c .marks))
-  the-reg-marks = after (take 32 (c .nums)) _ 9 regs-long
+  the-reg-marks : getD (wordsOf o c map) atRegMarks 0 ≡ packBits (take REGS (c .marks))
+  the-reg-marks = after (take REGS (c .nums)) _ 9 regs-long
 
   the-sys-marks : getD (wordsOf o c map) atSysMarks 0 ≡ sysMarks (c .marks)
-  the-sys-marks = after (take 32 (c .nums)) _ 10 regs-long
+  the-sys-marks = after (take REGS (c .nums)) _ 10 regs-long
 
   in-psw :
       (getD (wordsOf o c map) atPSW 0 / 2 ^ 7 % 2 ≡ o .np) × (getD (wordsOf o c map) atPSW 0 / 2 ^ 6 % 2 ≡ o .ep)
@@ -206,7 +108,7 @@ module _ (o : Open) (c : Cells) (map : List ℕ) (w : WellFormed o c) where
       × (getD (wordsOf o c map) atPSW 0 ≤ 0xFF)
   in-psw =
       let p = psw-parts (getD (c .nums) (sys PSW) 0) (o .np) (o .ep) (o .id) (w .core .np) (w .core .ep) (w .core .id) in
-      rw the-psw (p .0, p .1, p .2, p .3 ∙ omega (arith, w .cells .small 37), p .4)
+      rw the-psw (p .0, p .1, p .2, p .3 ∙ omega (arith, w .cells .small (sys PSW)), p .4)
 
   in-waits :
       (byte 0 (getD (wordsOf o c map) atWaits 0) ≡ o .halted) × (byte 1 (getD (wordsOf o c map) atWaits 0) ≡ o .nmi)
@@ -221,7 +123,7 @@ module _ (o : Open) (c : Cells) (map : List ℕ) (w : WellFormed o c) where
   in-marks =
       rw the-sys-marks
       (marks-parts (getD (c .marks) (sys PSW) 0) (getD (c .marks) (sys EIPSW) 0) (getD (c .marks) (sys FEPSW) 0) (getD (c .marks) (sys EIPC) 0)
-      (getD (c .marks) (sys FEPC) 0) (w .cells .small-marks 33) (w .cells .small-marks 35) (w .cells .small-marks 32) (w .cells .small-marks 34))
+      (getD (c .marks) (sys FEPC) 0) (w .cells .small-marks (sys EIPSW)) (w .cells .small-marks (sys FEPSW)) (w .cells .small-marks (sys EIPC)) (w .cells .small-marks (sys FEPC)))
 
   core-back : coreIn (wordsOf o c map) ≡ o
   core-back = λ i.
@@ -236,12 +138,12 @@ module _ (o : Open) (c : Cells) (map : List ℕ) (w : WellFormed o c) where
         halted = in-waits .0 i;
       }
 
-  regs-back : take 32 (wordsOf o c map) ≡ take 32 (c .nums)
-  regs-back = take-at (take 32 (c .nums)) _ 32 regs-long
+  regs-back : take REGS (wordsOf o c map) ≡ take REGS (c .nums)
+  regs-back = take-at (take REGS (c .nums)) _ REGS regs-long
 
   nums-back : numsIn (wordsOf o c map) ≡ c .nums
   nums-back =
-      let ecr : 0 ≡ getD (c .nums) 36 0 = omega (arith, w .cells .small 36) in
+      let ecr : 0 ≡ getD (c .nums) (sys ECR) 0 = omega (arith, w .cells .small (sys ECR)) in
       ap₂ (λ (s t : List ℕ). s ++ t) regs-back (λ i. the-eipc i ∷ the-eipsw i ∷ the-fepc i ∷ the-fepsw i ∷ ecr i ∷ in-psw .3 i ∷ [])
       ∙ six-there (c .nums) (w .cells .nums)
 
@@ -249,24 +151,24 @@ module _ (o : Open) (c : Cells) (map : List ℕ) (w : WellFormed o c) where
   marks-back =
       let m = c .marks in
       let k = formed-marks w in
-      let regs : bitsFrom (getD (wordsOf o c map) atRegMarks 0) 0 32 ≡ take 32 m =
-      ap (λ (x : ℕ). bitsFrom x 0 32) the-reg-marks
-      ∙ ap (λ (n : ℕ). bitsFrom (packBits (take 32 m)) 0 n) (sym (length-take-le 32 m (omega (arith, k .long))))
-      ∙ bits-pack (take 32 m) (regs-bits m k) in
+      let regs : bitsFrom (getD (wordsOf o c map) atRegMarks 0) 0 REGS ≡ take REGS m =
+      ap (λ (x : ℕ). bitsFrom x 0 REGS) the-reg-marks
+      ∙ ap (λ (n : ℕ). bitsFrom (packBits (take REGS m)) 0 n) (sym (length-take-le REGS m (omega (arith, k .long))))
+      ∙ bits-pack (take REGS m) (regs-bits m k) in
       let eipc : byte 3 (getD (wordsOf o c map) atSysMarks 0) % 2 ≡ getD m (sys EIPC) 0 =
       ap (λ (x : ℕ). x % 2) (in-marks .3) ∙ omega (arith, k .eipc) in
       let fepc : byte 3 (getD (wordsOf o c map) atSysMarks 0) / 2 % 2 ≡ getD m (sys FEPC) 0 =
       ap (λ (x : ℕ). x / 2 % 2) (in-marks .3) ∙ omega (arith, k .eipc, k .fepc) in
-      let ecr : 0 ≡ getD m 36 0 = omega (arith, w .cells .small-marks 36) in
+      let ecr : 0 ≡ getD m (sys ECR) 0 = omega (arith, w .cells .small-marks (sys ECR)) in
       let flags : byte 0 (getD (wordsOf o c map) atSysMarks 0) % 2 ^ 5 ≡ getD m (sys PSW) 0 =
-      ap (λ (x : ℕ). x % 2 ^ 5) (in-marks .0) ∙ omega (arith, w .cells .small-marks 37) in
+      ap (λ (x : ℕ). x % 2 ^ 5) (in-marks .0) ∙ omega (arith, w .cells .small-marks (sys PSW)) in
       ap₂ (λ (s t : List ℕ). s ++ t) regs (λ i. eipc i ∷ in-marks .1 i ∷ fepc i ∷ in-marks .2 i ∷ ecr i ∷ flags i ∷ []) ∙ six-there m (k .long)
 
   cells-back : cellsIn (wordsOf o c map) ≡ c
   cells-back = ap₂ both nums-back marks-back
 
   map-back : mapIn (wordsOf o c map) ≡ map
-  map-back = drop-after (take 32 (c .nums)) _ 11 regs-long
+  map-back = drop-after (take REGS (c .nums)) _ 11 regs-long
 
 pub apart-together : (o : Open) (c : Cells) (map : List ℕ) → WellFormed o c
     → (coreIn (wordsOf o c map) ≡ o) × (cellsIn (wordsOf o c map) ≡ c) × (mapIn (wordsOf o c map) ≡ map)
@@ -350,47 +252,40 @@ passes ws p =
 -- What a well-formed state puts together is words.
 pub formed-words : (o : Open) (c : Cells) (map : List ℕ) → WellFormed o c → Below (2 ^ 32) map → Below (2 ^ 32) (wordsOf o c map)
 formed-words o c map w h =
-    below-append (take 32 (c .nums)) _ (below-take (2 ^ 32) (c .nums) 32 (omega arith) (λ i l. simp (lt-ltb i 32 l) at (w .cells .small i)))
-    (below-cons (omega (arith, w .core .pc-24)) (below-cons (omega arith) (below-cons (omega (arith, w .cells .small 32)) (below-cons (omega (arith, w .cells .small 33))
-    (below-cons (omega (arith, w .cells .small 34)) (below-cons (omega (arith, w .cells .small 35)) (below-cons (w .core .ecr) (below-cons (omega (arith, code-target (o .code) (w .core .code) .1))
+    below-append (take REGS (c .nums)) _ (below-take (2 ^ 32) (c .nums) REGS (omega arith) (λ i l. simp (lt-ltb i REGS l) at (w .cells .small i)))
+    (below-cons (omega (arith, w .core .pc-24)) (below-cons (omega arith) (below-cons (omega (arith, w .cells .small (sys EIPC))) (below-cons (omega (arith, w .cells .small (sys EIPSW)))
+    (below-cons (omega (arith, w .cells .small (sys FEPC))) (below-cons (omega (arith, w .cells .small (sys FEPSW))) (below-cons (w .core .ecr) (below-cons (omega (arith, code-target (o .code) (w .core .code) .1))
     (below-cons (omega (arith, w .core .halted, w .core .nmi)) (below-cons (pack-word (c .marks) 0 (formed-marks w))
-    (below-cons (omega (arith, w .cells .small-marks 33, w .cells .small-marks 35, w .cells .small-marks 32, w .cells .small-marks 34)) h)))))))))))
+    (below-cons (omega (arith, w .cells .small-marks (sys EIPSW), w .cells .small-marks (sys FEPSW), w .cells .small-marks (sys EIPC), w .cells .small-marks (sys FEPC))) h)))))))))))
 
 -- What a well-formed state puts together passes.
 pub formed-good-state : (o : Open) (c : Cells) (map : List ℕ) → WellFormed o c → goodState (wordsOf o c map) ≡ true
 formed-good-state o c map w =
     passes (wordsOf o c map)
     (record {
-      r0 = List·getD-append (take 32 (c .nums)) _ 0 0 (omega (arith, regs-long o c map w)) ∙ getD-take 32 (c .nums) 0 0 (omega arith) ∙ w .cells .r0;
+      r0 = List·getD-append (take REGS (c .nums)) _ 0 0 (omega (arith, regs-long o c map w)) ∙ getD-take REGS (c .nums) 0 0 (omega arith) ∙ w .cells .r0;
       r0-mark = ap (λ (x : ℕ). x % 2) (the-reg-marks o c map w)
           ∙ omega (arith, pack-more (c .marks) 0 (formed-marks w) (omega arith), w .cells .r0-mark);
       pc-even = ap (λ (x : ℕ). x % 2) (the-pc o c map w) ∙ w .core .pc-even;
       pc = omega (arith, the-pc o c map w, w .core .pc-even, w .core .pc-24);
       psw = in-psw o c map w .4;
-      eipsw = omega (arith, the-eipsw o c map w, w .cells .small 33);
-      fepsw = omega (arith, the-fepsw o c map w, w .cells .small 35);
-      eipc = omega (arith, the-eipc o c map w, w .cells .small 32);
-      fepc = omega (arith, the-fepc o c map w, w .cells .small 34);
+      eipsw = omega (arith, the-eipsw o c map w, w .cells .small (sys EIPSW));
+      fepsw = omega (arith, the-fepsw o c map w, w .cells .small (sys FEPSW));
+      eipc = omega (arith, the-eipc o c map w, w .cells .small (sys EIPC));
+      fepc = omega (arith, the-fepc o c map w, w .cells .small (sys FEPC));
       code = ap goodCode (the-code o c map w) ∙ w .core .code;
       halted = omega (arith, in-waits o c map w .0, w .core .halted);
       nmi = omega (arith, in-waits o c map w .1, w .core .nmi);
       filler = in-waits o c map w .2;
       filler2 = in-waits o c map w .3;
       psw-marks = omega (arith, in-marks o c map w .0);
-      pc-marks = omega (arith, in-marks o c map w .3, w .cells .small-marks 32, w .cells .small-marks 34);
+      pc-marks = omega (arith, in-marks o c map w .3, w .cells .small-marks (sys EIPC), w .cells .small-marks (sys FEPC));
     })
-
--- a register's number and mark, within their bounds
-reg-limit : (i x : ℕ) → i < 32 → x < 2 ^ 32 → x < limit i
-reg-limit i x h l = simp (lt-ltb i 32 h) l
-
-reg-mark-limit : (i x : ℕ) → i < 32 → x < 2 → x < markLimit i
-reg-mark-limit i x h l = simp (lt-ltb i 32 h) l
 
 -- What passes is taken apart as a well-formed state, and put together as it was.
 module _ (ws : List ℕ) (long : length ws ≡ WORDS) (words : Below (2 ^ 32) ws) (good : goodState ws ≡ true) where
-  first-long : length (take 32 ws) ≡ 32
-  first-long = length-take-le 32 ws (omega arith)
+  first-long : length (take REGS ws) ≡ REGS
+  first-long = length-take-le REGS ws (omega arith)
 
   bit-0 : getD ws atRegMarks 0 % 2 ≡ 0 → getD (marksIn ws) 0 0 ≡ 0
   unfolding bitsFrom
@@ -412,16 +307,16 @@ module _ (ws : List ℕ) (long : length ws ≡ WORDS) (words : Below (2 ^ 32) ws
           halted = omega (arith, p .halted);
         };
         cells = record {
-          nums = length-append (take 32 ws) _ ∙ omega (arith, first-long);
-          marks = length-append (bitsFrom (getD ws atRegMarks 0) 0 32) _ ∙ omega (arith, bits-length (getD ws atRegMarks 0) 0 32);
-          r0 = List·getD-append (take 32 ws) _ 0 0 (omega (arith, first-long)) ∙ getD-take 32 ws 0 0 (omega arith) ∙ p .r0;
+          nums = length-append (take REGS ws) _ ∙ omega (arith, first-long);
+          marks = length-append (bitsFrom (getD ws atRegMarks 0) 0 REGS) _ ∙ omega (arith, bits-length (getD ws atRegMarks 0) 0 REGS);
+          r0 = List·getD-append (take REGS ws) _ 0 0 (omega (arith, first-long)) ∙ getD-take REGS ws 0 0 (omega arith) ∙ p .r0;
           r0-mark = bit-0 (p .r0-mark);
-          small = each (λ (i x : ℕ). x < limit i) (take 32 ws) _ _ _ _ _ _ first-long
-              (λ i h. reg-limit i (getD (take 32 ws) i 0) h (rw (getD-take 32 ws i 0 h) (words .at i)))
+          small = of-cells (λ (i x : ℕ). x < limit i) (take REGS ws) _ _ _ _ _ _ first-long
+              (λ i h. rw (reg-limit i h, getD-take REGS ws i 0 h) (words .at i))
               (omega (arith, p .eipc)) (omega (arith, p .eipsw)) (omega (arith, p .fepc)) (omega (arith, p .fepsw)) (omega arith) (omega arith)
               (λ i h. omega (arith, reset-well-formed .cells .small i));
-          small-marks = each (λ (i x : ℕ). x < markLimit i) (bitsFrom (getD ws atRegMarks 0) 0 32) _ _ _ _ _ _ (bits-length (getD ws atRegMarks 0) 0 32)
-              (λ i h. reg-mark-limit i (getD (bitsFrom (getD ws atRegMarks 0) 0 32) i 0) h (bits-below (getD ws atRegMarks 0) 0 32 .at i))
+          small-marks = of-cells (λ (i x : ℕ). x < markLimit i) (bitsFrom (getD ws atRegMarks 0) 0 REGS) _ _ _ _ _ _ (bits-length (getD ws atRegMarks 0) 0 REGS)
+              (λ i h. rw (reg-mark-limit i h) (bits-below (getD ws atRegMarks 0) 0 REGS .at i))
               (omega arith) (omega arith) (omega arith) (omega arith) (omega arith) (omega arith)
               (λ i h. omega (arith, reset-well-formed .cells .small-marks i));
         };
@@ -432,18 +327,18 @@ module _ (ws : List ℕ) (long : length ws ≡ WORDS) (words : Below (2 ^ 32) ws
       let p = passed ws good in
       let n = numsIn ws in
       let m = marksIn ws in
-      let bits = bitsFrom (getD ws atRegMarks 0) 0 32 in
-      let bl = bits-length (getD ws atRegMarks 0) 0 32 in
-      let regs : take 32 n ≡ take 32 ws = take-at (take 32 ws) _ 32 first-long in
-      let flags : getD n 37 0 ≡ getD ws atPSW 0 % 2 ^ 5 = after (take 32 ws) _ 5 first-long in
+      let bits = bitsFrom (getD ws atRegMarks 0) 0 REGS in
+      let bl = bits-length (getD ws atRegMarks 0) 0 REGS in
+      let regs : take REGS n ≡ take REGS ws = take-at (take REGS ws) _ REGS first-long in
+      let flags : getD n (sys PSW) 0 ≡ getD ws atPSW 0 % 2 ^ 5 = after (take REGS ws) _ 5 first-long in
       let psw : psw (coreIn ws) (cellsIn ws) .on ≡ getD ws atPSW 0 = rw flags (psw-whole (getD ws atPSW 0) (p .psw)) in
-      let eipc : getD n 32 0 ≡ getD ws atEIPC 0 = after (take 32 ws) _ 0 first-long in
-      let eipsw : getD n 33 0 ≡ getD ws atEIPSW 0 = after (take 32 ws) _ 1 first-long in
-      let fepc : getD n 34 0 ≡ getD ws atFEPC 0 = after (take 32 ws) _ 2 first-long in
-      let fepsw : getD n 35 0 ≡ getD ws atFEPSW 0 = after (take 32 ws) _ 3 first-long in
+      let eipc : getD n (sys EIPC) 0 ≡ getD ws atEIPC 0 = after (take REGS ws) _ 0 first-long in
+      let eipsw : getD n (sys EIPSW) 0 ≡ getD ws atEIPSW 0 = after (take REGS ws) _ 1 first-long in
+      let fepc : getD n (sys FEPC) 0 ≡ getD ws atFEPC 0 = after (take REGS ws) _ 2 first-long in
+      let fepsw : getD n (sys FEPSW) 0 ≡ getD ws atFEPSW 0 = after (take REGS ws) _ 3 first-long in
       let waits = waits-whole (getD ws atWaits 0) (words .at atWaits) (p .filler) (p .filler2) in
-      let reg-marks : packBits (take 32 m) ≡ getD ws atRegMarks 0 =
-      ap packBits (take-at bits _ 32 bl) ∙ pack-bits (getD ws atRegMarks 0) 32 (words .at atRegMarks) in
+      let reg-marks : packBits (take REGS m) ≡ getD ws atRegMarks 0 =
+      ap packBits (take-at bits _ REGS bl) ∙ pack-bits (getD ws atRegMarks 0) REGS (words .at atRegMarks) in
       let sys-marks : sysMarks m ≡ getD ws atSysMarks 0 =
       rw (after bits _ 5 bl, after bits _ 1 bl, after bits _ 3 bl, after bits _ 0 bl, after bits _ 2 bl)
       (marks-whole (getD ws atSysMarks 0) (words .at atSysMarks) (p .psw-marks) (p .pc-marks)) in

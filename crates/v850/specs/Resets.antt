@@ -6,7 +6,7 @@ use Prim.Native.Nat.{ℕ, _^_}
 use lib.ListN.{length}
 use borrow.Author.Tests.{eq-eqb}
 use Rattle.machine.specs.Run.{resetOpen, resetCells}
-use Rattle.v850.specs.Block.{bytesOf, wordsFrom, packBits, BYTES, WORDS, mapIn, wordsOf, goodState}
+use Rattle.v850.specs.Block.{bytesOf, wordsFrom, packBits, BYTES, WORDS, MAP-WORDS, mapIn, wordsOf, goodState}
 use Rattle.v850.specs.PackLaws.{Below, words-length, words-bytes, words-below}
 use Rattle.v850.specs.BlockLaws.{map-long, map-words}
 use Rattle.v850.specs.Entry.{wordsIn, reset}
@@ -28,5 +28,5 @@ module _ (block : List ℕ) (long : length block ≡ BYTES) where
   unfolding bytesOf wordsFrom
   reset-map h = rw reset-bytes (back (mapIn (wordsIn block)) (map-long (wordsIn block) (words-length block 0 WORDS)) (map-words (words-below block 0 WORDS h)))
     where
-      back : (map : List ℕ) → length map ≡ 16 → Below (2 ^ 32) map → mapIn (wordsIn (bytesOf (wordsOf resetOpen resetCells map))) ≡ map
+      back : (map : List ℕ) → length map ≡ MAP-WORDS → Below (2 ^ 32) map → mapIn (wordsIn (bytesOf (wordsOf resetOpen resetCells map))) ≡ map
       back map l b = subst (λ (n : ℕ). wordsFrom (bytesOf map) 0 n ≡ map) l (words-bytes map b)

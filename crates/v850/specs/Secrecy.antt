@@ -15,7 +15,7 @@ use Rattle.machine.specs.WellFormed.{WellFormed}
 use Rattle.machine.specs.Invariants.{run-well-formed}
 use Rattle.machine.specs.Alike.{bitCells, noBitCells, Alike, AlikeEnds}
 use Rattle.machine.specs.Secrecy.{secrecy}
-use Rattle.v850.specs.Block.{bytesOf, wordsFrom, BYTES, WORDS, REPORT, mapIn, coreIn, cellsIn, wordsOf, goodState}
+use Rattle.v850.specs.Block.{bytesOf, wordsFrom, BYTES, WORDS, MAP-WORDS, REPORT, mapIn, coreIn, cellsIn, wordsOf, goodState}
 use Rattle.v850.specs.PackLaws.{Below, words-length, words-bytes, words-below}
 use Rattle.v850.specs.BlockLaws.{map-long, map-words, apart-together}
 use Rattle.v850.specs.Entry.{MEMORY, goodSizes, wordsIn, finished, called}
@@ -68,7 +68,7 @@ words-back : {ws : List ℕ} → Good ws → wordsIn (bytesOf ws) ≡ ws
 words-back {ws} g = subst (λ (n : ℕ). wordsFrom (bytesOf ws) 0 n ≡ ws) (g .long) (words-bytes ws (g .words))
 
 -- alike ends leave one answer and report, and alike blocks, memories and marks
-module _ {map map′ : List ℕ} (same : map ≡ map′) (long : length map ≡ 16) (words : Below (2 ^ 32) map) {x y : Ended}
+module _ {map map′ : List ℕ} (same : map ≡ map′) (long : length map ≡ MAP-WORDS) (words : Below (2 ^ 32) map) {x y : Ended}
     (f : WellFormed (x .ran .core) (x .cells)) (g : WellFormed (y .ran .core) (y .cells)) (h : AlikeEnds x y) where
   blocks-alike : AlikeWords (wordsOf (x .ran .core) (x .cells) map) (wordsOf (y .ran .core) (y .cells) map)
   blocks-alike =

@@ -7,18 +7,21 @@ use native.Mathlib.Omega.{arith}
 use native.Mathlib.Nat.{lt-of-lt-of-le, div-eq-of-lt}
 use lib.Dec.{eqb, ltb}
 use lib.Pow.{pow-mono}
-use lib.ListN.{length, getD, take, length-append, List·getD-append}
-use lib.Seq.{length-take-le, getD-take, getD-drop, getD-append-add, ext-getD}
+use lib.ListN.{length, getD, take, length-append}
+use lib.Seq.{length-take-le, getD-take, getD-drop, ext-getD}
 use borrow.Author.Tests.{ltb-true, ltb-false, eqb-true, eqb-false}
 use Rattle.word.specs.Shifts.{bit}
 use Rattle.word.specs.FlagLaws.{bit-low}
 use Rattle.word.specs.Tests.{beq→eq, below-at}
 use Rattle.machine.specs.declared.Open.{Open}
 use Rattle.machine.specs.Marked.{Cells, marked}
+use Rattle.machine.specs.Psw.{REGS}
 use Rattle.machine.specs.WellFormed.{WellFormed}
 use Rattle.machine.specs.Alike.{bitCells, Alike}
-use Rattle.v850.specs.Block.{WORDS, atPSW, atEIPC, atEIPSW, atFEPC, atFEPSW, atWaits, atRegMarks, atSysMarks, atMap, byte, bitsFrom, packBits, mapIn, coreIn, numsIn, marksIn, cellsIn, wordsOf, goodState}
+use Rattle.machine.specs.AlikeLaws.{register}
+use Rattle.v850.specs.Block.{WORDS, MAP-WORDS, atPSW, atEIPC, atEIPSW, atFEPC, atFEPSW, atWaits, atRegMarks, atSysMarks, atMap, byte, bitsFrom, packBits, mapIn, coreIn, numsIn, marksIn, cellsIn, wordsOf, goodState}
 use Rattle.v850.specs.PackLaws.{Below, bits-length}
+use Rattle.v850.specs.Places.{before, after, everywhere}
 use Rattle.v850.specs.BlockLaws.{map-long, sysMarks, passed, formed-words, formed-good-state, good-state-formed, together-apart}
 use Rattle.v850.specs.AlikeStarts.{AlikeWords}
 
@@ -31,10 +34,10 @@ pub record Good (ws : List ℕ) : Type 0 where
 pub formed : {ws : List ℕ} → Good ws → WellFormed (coreIn ws) (cellsIn ws)
 formed {ws} g = good-state-formed ws (g .long) (g .words) (g .state)
 
-pub together-good : (o : Open) (c : Cells) (map : List ℕ) → WellFormed o c → length map ≡ 16 → Below (2 ^ 32) map → Good (wordsOf o c map)
+pub together-good : (o : Open) (c : Cells) (map : List ℕ) → WellFormed o c → length map ≡ MAP-WORDS → Below (2 ^ 32) map → Good (wordsOf o c map)
 together-good o c map w l h =
     record {
-      long = length-append (take 32 (c .nums)) _ ∙ omega (arith, length-take-le 32 (c .nums) (omega (arith, w .cells .nums)));
+      long = length-append (take REGS (c .nums)) _ ∙ omega (arith, length-take-le REGS (c .nums) (omega (arith, w .cells .nums)));
       words = formed-words o c map w h;
       state = formed-good-state o c map w;
     }
@@ -62,9 +65,9 @@ bits-at x i zero k h = absurd (omega arith)
 bits-at x i (suc n) zero h = ap (λ (j : ℕ). x / 2 ^ j % 2) {x = i} {y = i + 0} (omega arith)
 bits-at x i (suc n) (suc k) h = bits-at x (suc i) n k (omega arith) ∙ ap (λ (j : ℕ). x / 2 ^ j % 2) {x = suc i + k} {y = i + suc k} (omega arith)
 
-reg-mark : (x i : ℕ) → i < 32 → marked (getD (bitsFrom x 0 32) i 0) ≡ bit i x
+reg-mark : (x i : ℕ) → i < REGS → marked (getD (bitsFrom x 0 REGS) i 0) ≡ bit i x
 reg-mark x i h =
-    ap marked (bits-at x 0 32 i h ∙ ap (λ (j : ℕ). x / 2 ^ j % 2) {x = 0 + i} {y = i} (omega arith)) ∙ bit-marked (x / 2 ^ i % 2) (omega arith)
+    ap marked (bits-at x 0 REGS i h ∙ ap (λ (j : ℕ). x / 2 ^ j % 2) {x = 0 + i} {y = i} (omega arith)) ∙ bit-marked (x / 2 ^ i % 2) (omega arith)
 
 first-bit : (x : ℕ) → marked (x % 2) ≡ bit 0 x
 first-bit x = ap (λ (y : ℕ). marked (y % 2)) {x = x} {y = x / 1} (omega arith) ∙ bit-marked (x / 1 % 2) (omega arith)
@@ -82,28 +85,14 @@ by-value i m x y e f = (λ u. f, λ u. absurd (true≢false (sym u ∙ e)))
 by-bits : (i m x y : ℕ) → bitCells i ≡ true → ((k : ℕ) → k < 8 → bit k m ≡ false → bit k x ≡ bit k y) → Agree i m x y
 by-bits i m x y e f = (λ u. absurd (true≢false (sym e ∙ u)), λ u. f)
 
-register : (i : ℕ) → i < 32 → bitCells i ≡ false
-register i h = beq→eq (bitCells i) false (below-at 32 (λ k. Bool·beq (bitCells k) false) tt i h)
-
-after : (s t : List ℕ) (j : ℕ) → length s ≡ 32 → getD (s ++ t) (32 + j) 0 ≡ getD t j 0
-after s t j h = ap (λ (k : ℕ). getD (s ++ t) (k + j) 0) (sym h) ∙ getD-append-add s t j 0
-
-before : (s t : List ℕ) (i : ℕ) → length s ≡ 32 → i < 32 → getD (s ++ t) i 0 ≡ getD s i 0
-before s t i h l = List·getD-append s t 0 i (omega arith)
-
--- what holds of the first 32 places of three lists and of those after them holds everywhere
-each : (P : ℕ → ℕ → ℕ → ℕ → Type 0) (r s t a b d : List ℕ) → length r ≡ 32 → length s ≡ 32 → length t ≡ 32
-    → ((i : ℕ) → i < 32 → P i (getD r i 0) (getD s i 0) (getD t i 0)) → ((j : ℕ) → P (32 + j) (getD a j 0) (getD b j 0) (getD d j 0))
+-- the same of three lists at all places
+each : (P : ℕ → ℕ → ℕ → ℕ → Type 0) (r s t a b d : List ℕ) → length r ≡ REGS → length s ≡ REGS → length t ≡ REGS
+    → ((i : ℕ) → i < REGS → P i (getD r i 0) (getD s i 0) (getD t i 0)) → ((j : ℕ) → P (REGS + j) (getD a j 0) (getD b j 0) (getD d j 0))
     → (i : ℕ) → P i (getD (r ++ a) i 0) (getD (s ++ b) i 0) (getD (t ++ d) i 0)
-each P r s t a b d hr hs ht first rest i = cases (ltb i 32) refl
-  where
-    cases : (q : Bool) → ltb i 32 ≡ q → P i (getD (r ++ a) i 0) (getD (s ++ b) i 0) (getD (t ++ d) i 0)
-    cases true q =
-        let l = ltb-true i 32 q in
-        rw (before r a i hr l, before s b i hs l, before t d i ht l) (first i l)
-    cases false q =
-        subst (λ (k : ℕ). P k (getD (r ++ a) k 0) (getD (s ++ b) k 0) (getD (t ++ d) k 0)) {x = 32 + (i - 32)} {y = i} (omega (arith, ltb-false i 32 q))
-        (rw (after r a (i - 32) hr, after s b (i - 32) hs, after t d (i - 32) ht) (rest (i - 32)))
+each P r s t a b d hr hs ht first rest =
+    everywhere (λ (i : ℕ). P i (getD (r ++ a) i 0) (getD (s ++ b) i 0) (getD (t ++ d) i 0))
+    (λ i l. rw (before r a i hr l, before s b i hs l, before t d i ht l) (first i l))
+    (λ j. rw (after r a j hr, after s b j hs, after t d j ht) (rest j))
 
 -- the cells after the registers
 abbrev savedNums : List ℕ → List ℕ
@@ -116,25 +105,25 @@ savedMarks ws =
     ∷ byte 2 (getD ws atSysMarks 0) ∷ 0 ∷ byte 0 (getD ws atSysMarks 0) % 2 ^ 5 ∷ []
 
 abbrev regMarks : List ℕ → List ℕ
-regMarks ws = bitsFrom (getD ws atRegMarks 0) 0 32
+regMarks ws = bitsFrom (getD ws atRegMarks 0) 0 REGS
 
 module _ {ws : List ℕ} (g : Good ws) where
-  regs-long : length (take 32 ws) ≡ 32
-  regs-long = length-take-le 32 ws (omega (arith, g .long))
+  regs-long : length (take REGS ws) ≡ REGS
+  regs-long = length-take-le REGS ws (omega (arith, g .long))
 
-  bits-long : length (regMarks ws) ≡ 32
-  bits-long = bits-length (getD ws atRegMarks 0) 0 32
+  bits-long : length (regMarks ws) ≡ REGS
+  bits-long = bits-length (getD ws atRegMarks 0) 0 REGS
 
   -- a word after the registers, from what it is put together of
-  put-at : (t : List ℕ) → take 32 (numsIn ws) ++ t ≡ ws → (j : ℕ) → getD ws (32 + j) 0 ≡ getD t j 0
+  put-at : (t : List ℕ) → take REGS (numsIn ws) ++ t ≡ ws → (j : ℕ) → getD ws (REGS + j) 0 ≡ getD t j 0
   put-at t e j =
-      sym (ap (λ (l : List ℕ). getD l (32 + j) 0) e)
-      ∙ after (take 32 (numsIn ws)) t j (length-take-le 32 (numsIn ws) (omega (arith, formed g .cells .nums)))
+      sym (ap (λ (l : List ℕ). getD l (REGS + j) 0) e)
+      ∙ after (take REGS (numsIn ws)) t j (length-take-le REGS (numsIn ws) (omega (arith, formed g .cells .nums)))
 
   put-waits : getD ws atWaits 0 ≡ coreIn ws .halted + 2 ^ 8 * coreIn ws .nmi
   put-waits = put-at _ (together-apart ws (g .long) (g .words) (g .state)) 8
 
-  put-reg-marks : getD ws atRegMarks 0 ≡ packBits (take 32 (marksIn ws))
+  put-reg-marks : getD ws atRegMarks 0 ≡ packBits (take REGS (marksIn ws))
   put-reg-marks = put-at _ (together-apart ws (g .long) (g .words) (g .state)) 9
 
   put-sys-marks : getD ws atSysMarks 0 ≡ sysMarks (marksIn ws)
@@ -205,16 +194,16 @@ module _ {v w : List ℕ} (f : Good v) (g : Good w) (h : AlikeWords v w) where
 
   marks-same : marksIn v ≡ marksIn w
   marks-same =
-      ap₂ (λ (x y : ℕ). bitsFrom x 0 32 ++ (byte 3 y % 2 ∷ byte 1 y ∷ byte 3 y / 2 % 2 ∷ byte 2 y ∷ 0 ∷ byte 0 y % 2 ^ 5 ∷ []))
+      ap₂ (λ (x y : ℕ). bitsFrom x 0 REGS ++ (byte 3 y % 2 ∷ byte 1 y ∷ byte 3 y / 2 % 2 ∷ byte 2 y ∷ 0 ∷ byte 0 y % 2 ^ 5 ∷ []))
       (h .reg-marks) (h .sys-marks)
 
-  regs-agree : (i : ℕ) → i < 32 → Agree i (getD (regMarks v) i 0) (getD (take 32 v) i 0) (getD (take 32 w) i 0)
+  regs-agree : (i : ℕ) → i < REGS → Agree i (getD (regMarks v) i 0) (getD (take REGS v) i 0) (getD (take REGS w) i 0)
   regs-agree i l =
-      by-value i (getD (regMarks v) i 0) (getD (take 32 v) i 0) (getD (take 32 w) i 0) (register i l) λ e.
-      getD-take 32 v i 0 l ∙ h .regs i l (sym (reg-mark (getD v atRegMarks 0) i l) ∙ e) ∙ sym (getD-take 32 w i 0 l)
+      by-value i (getD (regMarks v) i 0) (getD (take REGS v) i 0) (getD (take REGS w) i 0) (register i l) λ e.
+      getD-take REGS v i 0 l ∙ h .regs i l (sym (reg-mark (getD v atRegMarks 0) i l) ∙ e) ∙ sym (getD-take REGS w i 0 l)
 
-  saved-agree : (j : ℕ) → Agree (32 + j) (getD (savedMarks v) j 0) (getD (savedNums v) j 0) (getD (savedNums w) j 0)
-  saved-agree zero = by-value 32 _ _ _ refl (λ e. h .eipc (sym (first-bit (byte 3 (getD v atSysMarks 0))) ∙ e))
+  saved-agree : (j : ℕ) → Agree (REGS + j) (getD (savedMarks v) j 0) (getD (savedNums v) j 0) (getD (savedNums w) j 0)
+  saved-agree zero = by-value REGS _ _ _ refl (λ e. h .eipc (sym (first-bit (byte 3 (getD v atSysMarks 0))) ∙ e))
   saved-agree (suc zero) = by-bits 33 _ _ _ refl (h .eipsw)
   saved-agree (suc (suc zero)) = by-value 34 _ _ _ refl (λ e. h .fepc (sym (second-bit (byte 3 (getD v atSysMarks 0))) ∙ e))
   saved-agree (suc (suc (suc zero))) = by-bits 35 _ _ _ refl (h .fepsw)
@@ -225,7 +214,7 @@ module _ {v w : List ℕ} (f : Good v) (g : Good w) (h : AlikeWords v w) where
 
   cells-agree : (i : ℕ) → Agree i (getD (marksIn v) i 0) (getD (numsIn v) i 0) (getD (numsIn w) i 0)
   cells-agree =
-      each Agree (regMarks v) (take 32 v) (take 32 w) (savedMarks v) (savedNums v) (savedNums w)
+      each Agree (regMarks v) (take REGS v) (take REGS w) (savedMarks v) (savedNums v) (savedNums w)
       (bits-long f) (regs-long f) (regs-long g) regs-agree saved-agree
 
   pub cells-alike : Alike bitCells (cellsIn v) (cellsIn w)
@@ -240,18 +229,18 @@ module _ {v w : List ℕ} (f : Good v) (g : Good w) (h : AlikeWords v w) where
 
 -- Blocks that are taken apart alike are alike.
 module _ {v w : List ℕ} (f : Good v) (g : Good w) (m : mapIn v ≡ mapIn w) (o : coreIn v ≡ coreIn w) (c : Alike bitCells (cellsIn v) (cellsIn w)) where
-  saved-agreed : (j : ℕ) → Agree (32 + j) (getD (savedMarks v) j 0) (getD (savedNums v) j 0) (getD (savedNums w) j 0)
+  saved-agreed : (j : ℕ) → Agree (REGS + j) (getD (savedMarks v) j 0) (getD (savedNums v) j 0) (getD (savedNums w) j 0)
   saved-agreed j =
-      let a : Agree (32 + j) (getD (marksIn v) (32 + j) 0) (getD (numsIn v) (32 + j) 0) (getD (numsIn w) (32 + j) 0) =
-      (c .values (32 + j), λ e k. c .bits (32 + j) k e) in
-      rw (after (regMarks v) (savedMarks v) j (bits-long f), after (take 32 v) (savedNums v) j (regs-long f), after (take 32 w) (savedNums w) j (regs-long g)) at a
+      let a : Agree (REGS + j) (getD (marksIn v) (REGS + j) 0) (getD (numsIn v) (REGS + j) 0) (getD (numsIn w) (REGS + j) 0) =
+      (c .values (REGS + j), λ e k. c .bits (REGS + j) k e) in
+      rw (after (regMarks v) (savedMarks v) j (bits-long f), after (take REGS v) (savedNums v) j (regs-long f), after (take REGS w) (savedNums w) j (regs-long g)) at a
 
-  reg-same : (n : ℕ) → n < 32 → bit n (getD v atRegMarks 0) ≡ false → getD v n 0 ≡ getD w n 0
+  reg-same : (n : ℕ) → n < REGS → bit n (getD v atRegMarks 0) ≡ false → getD v n 0 ≡ getD w n 0
   reg-same n l e =
       let mark : marked (getD (marksIn v) n 0) ≡ false =
       ap marked (before (regMarks v) (savedMarks v) n (bits-long f) l) ∙ reg-mark (getD v atRegMarks 0) n l ∙ e in
-      sym (before (take 32 v) (savedNums v) n (regs-long f) l ∙ getD-take 32 v n 0 l) ∙ c .values n (register n l) mark
-      ∙ before (take 32 w) (savedNums w) n (regs-long g) l ∙ getD-take 32 w n 0 l
+      sym (before (take REGS v) (savedNums v) n (regs-long f) l ∙ getD-take REGS v n 0 l) ∙ c .values n (register n l) mark
+      ∙ before (take REGS w) (savedNums w) n (regs-long g) l ∙ getD-take REGS w n 0 l
 
   map-word : (i : ℕ) → atMap ≤ i → (ws : List ℕ) → getD (mapIn ws) (i - atMap) 0 ≡ getD ws i 0
   map-word i l ws = getD-drop atMap ws (i - atMap) 0 ∙ ap (λ (k : ℕ). getD ws k 0) {x = atMap + (i - atMap)} {y = i} (omega arith)
@@ -259,7 +248,7 @@ module _ {v w : List ℕ} (f : Good v) (g : Good w) (m : mapIn v ≡ mapIn w) (o
   pub words-alike : AlikeWords v w
   words-alike =
       record {
-        reg-marks = put-reg-marks f ∙ ap (λ (l : List ℕ). packBits (take 32 l)) (c .marks) ∙ sym (put-reg-marks g);
+        reg-marks = put-reg-marks f ∙ ap (λ (l : List ℕ). packBits (take REGS l)) (c .marks) ∙ sym (put-reg-marks g);
         sys-marks = put-sys-marks f ∙ ap sysMarks (c .marks) ∙ sym (put-sys-marks g);
         map = λ i l. sym (map-word i l v) ∙ ap (λ (s : List ℕ). getD s (i - atMap) 0) m ∙ map-word i l w;
         code = ap (λ (x : Open). x .code) o;

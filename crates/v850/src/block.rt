@@ -6,7 +6,7 @@ ghost use lib.ListN.{length, take, drop, replicate};
 ghost use Rattle.machine.specs.Marked.{both};
 ghost use Rattle.machine.specs.Run.{resetOpen, resetCells};
 ghost use Rattle.machine.specs.WellFormed.{WellFormed};
-ghost use Rattle.v850.specs.Block.{bytesOf, bytesOfWord, wordAt, wordsFrom, BYTES, WORDS, atMap, REPORT, reportOf, byte, mapIn, coreIn, numsIn, marksIn, packBits, wordsOf, goodState};
+ghost use Rattle.v850.specs.Block.{bytesOf, bytesOfWord, wordAt, wordsFrom, BYTES, WORDS, atMap, MAP-WORDS, REPORT, reportOf, byte, mapIn, coreIn, numsIn, marksIn, packBits, wordsOf, goodState};
 ghost use Rattle.v850.specs.BlockLaws.{Marks, sysMarks};
 use machine::Open;
 use state::CELLS;
@@ -245,7 +245,7 @@ fn sys_marks(tags: &[u8; CELLS]) -> u32
 
 // The map, at the end of the words.
 fn put_map(ws: &mut [u32; WORDS], map: &[u32; MAP_WORDS])
-    requires { ⌜ (length (now ws) ≡ WORDS) × (length (now map) ≡ 16) ⌝ }
+    requires { ⌜ (length (now ws) ≡ WORDS) × (length (now map) ≡ MAP-WORDS) ⌝ }
     ensures { λ _. ⌜ now (ws .exit) ≡ take atMap (now (ws .entry)) ++ now (map .entry) ⌝ }
 {
     let mut k: usize = 0;
@@ -262,7 +262,7 @@ pub(crate) fn words_of(
     tags: &[u8; CELLS],
     map: &[u32; MAP_WORDS],
 ) -> [u32; WORDS]
-    requires { ⌜ WellFormed o (both (now cells) (now tags)) × (length (now map) ≡ 16) ⌝ }
+    requires { ⌜ WellFormed o (both (now cells) (now tags)) × (length (now map) ≡ MAP-WORDS) ⌝ }
     ensures { λ r. ⌜ r ≡ wordsOf o (both (now (cells .entry)) (now (tags .entry))) (now (map .entry)) ⌝ }
 {
     let mut ws = [0u32; WORDS];
@@ -289,7 +289,7 @@ pub(crate) fn words_of(
 // The words after reset: 0, but for PSW and the map. Made by themselves, they leave the words of a run to the run alone, whose code the
 // compiler then makes in one piece.
 pub(crate) fn reset_words(map: &[u32; MAP_WORDS]) -> [u32; WORDS]
-    requires { ⌜ length (now map) ≡ 16 ⌝ }
+    requires { ⌜ length (now map) ≡ MAP-WORDS ⌝ }
     ensures { λ r. ⌜ r ≡ wordsOf resetOpen resetCells (now (map .entry)) ⌝ }
 {
     let mut ws = [0u32; WORDS];

@@ -5,18 +5,19 @@ use native.Mathlib.Omega.{arith}
 use borrow.Author.Needs.{needs}
 use lib.ListN.{take, drop, length-drop}
 use lib.Seq.{take-all}
+use Rattle.v850.specs.Block.{atMap, MAP-WORDS}
 use Rattle.v850.proofs.Fill.{Filled, filled-none, filled-next, filled-all, drop-more}
 use Rattle.v850.proofs.block.map_in.Statement.{statement}
 use Rattle.v850.proofs.block.map_in.Tie as tie
 
 abbrev Inv-loop : tie.InvT-loop
-Inv-loop ws map₀ i₀ map i = Filled (λ n. take n (drop 43 ws)) 16 16 i map
+Inv-loop ws map₀ i₀ map i = Filled (λ n. take n (drop atMap ws)) MAP-WORDS MAP-WORDS i map
 
 abbrev μ-loop : tie.MeasureT-loop
-μ-loop ws map₀ i₀ map i = 16 - i
+μ-loop ws map₀ i₀ map i = MAP-WORDS - i
 
 loop-holds : tie.Need-loop-holds Inv-loop μ-loop
-loop-holds c = filled-none (λ n. take n (drop 43 (c .args .ws .now))) 16 16 _ refl refl
+loop-holds c = filled-none (λ n. take n (drop atMap (c .args .ws .now))) MAP-WORDS MAP-WORDS _ refl refl
 
 add-map : tie.Need-add-map Inv-loop μ-loop
 add-map c = search needs
@@ -40,10 +41,10 @@ loop-less : tie.Need-loop-less Inv-loop μ-loop
 loop-less c = search needs
 
 loop-again : tie.Need-loop-again Inv-loop μ-loop
-loop-again c = filled-next (λ n. take n (drop 43 (c .before .before .before .args .ws .now))) 16 16 (c .before .before .loop .i) _ _ (c .before .before .loop .map) (omega arith) (omega arith) (drop-more (c .before .before .before .args .ws .now) 43 (c .before .before .loop .i) (omega arith)) refl (c .before .before .loop .inv)
+loop-again c = filled-next (λ n. take n (drop atMap (c .before .before .before .args .ws .now))) MAP-WORDS MAP-WORDS (c .before .before .loop .i) _ _ (c .before .before .loop .map) (omega arith) (omega arith) (drop-more (c .before .before .before .args .ws .now) atMap (c .before .before .loop .i) (omega arith)) refl (c .before .before .loop .inv)
 
 returns : tie.Need-returns Inv-loop μ-loop
-returns c = filled-all (λ n. take n (drop 43 (c .before .before .args .ws .now))) 16 (c .before .loop .i) (c .before .loop .map) (c .loop-test .left) (c .before .loop .inv) ∙ take-all 16 (drop 43 (c .before .before .args .ws .now)) (omega (arith, length-drop 43 (c .before .before .args .ws .now)))
+returns c = filled-all (λ n. take n (drop atMap (c .before .before .args .ws .now))) MAP-WORDS (c .before .loop .i) (c .before .loop .map) (c .loop-test .left) (c .before .loop .inv) ∙ take-all MAP-WORDS (drop atMap (c .before .before .args .ws .now)) (omega (arith, length-drop atMap (c .before .before .args .ws .now)))
 
 pub map-in-spec : {M : Type 1} → statement M
 map-in-spec =

@@ -4,16 +4,17 @@ use Prim.Native.Nat.{ℕ, _-_, _/_, _%_, _^_}
 use native.Mathlib.Omega.{arith}
 use borrow.Author.Needs.{needs}
 use lib.ListN.{getD}
-use Rattle.v850.specs.Block.{bitsFrom}
+use Rattle.machine.specs.Psw.{REGS, CELLS}
+use Rattle.v850.specs.Block.{atRegMarks, bitsFrom}
 use Rattle.v850.proofs.Fill.{Filled, filled-none, filled-next, bits-more, filled-part, six-stored}
 use Rattle.v850.proofs.block.marks_in.Statement.{statement}
 use Rattle.v850.proofs.block.marks_in.Tie as tie
 
 abbrev Inv-loop : tie.InvT-loop
-Inv-loop ws regs marks tags₀ i₀ tags i = Filled (bitsFrom regs 0) 38 32 i tags
+Inv-loop ws regs marks tags₀ i₀ tags i = Filled (bitsFrom regs 0) CELLS REGS i tags
 
 abbrev μ-loop : tie.MeasureT-loop
-μ-loop ws regs marks tags₀ i₀ tags i = 32 - i
+μ-loop ws regs marks tags₀ i₀ tags i = REGS - i
 
 element-copy-out-regs : tie.Need-element-copy-out-regs Inv-loop μ-loop
 element-copy-out-regs c = search needs
@@ -23,7 +24,7 @@ element-copy-out-marks c = search needs
 
 loop-holds : tie.Need-loop-holds Inv-loop μ-loop
 unfolding bitsFrom
-loop-holds c = filled-none (bitsFrom (getD (c .before .before .args .ws .now) 41 0) 0) 38 32 _ refl refl
+loop-holds c = filled-none (bitsFrom (getD (c .before .before .args .ws .now) atRegMarks 0) 0) CELLS REGS _ refl refl
 
 cast-tags : tie.Need-cast-tags Inv-loop μ-loop
 cast-tags c = search needs
@@ -44,7 +45,7 @@ loop-less : tie.Need-loop-less Inv-loop μ-loop
 loop-less c = search needs
 
 loop-again : tie.Need-loop-again Inv-loop μ-loop
-loop-again c = filled-next (bitsFrom (getD (c .before .before .before .before .args .ws .now) 41 0) 0) 38 32 (c .before .loop .i) _ _ (c .before .loop .tags) (omega arith) (omega arith) (bits-more (getD (c .before .before .before .before .args .ws .now) 41 0) 0 (c .before .loop .i)) (ap (λ (k : ℕ). getD (c .before .before .before .before .args .ws .now) 41 0 / 2 ^ k % 2) (omega arith)) (c .before .loop .inv)
+loop-again c = filled-next (bitsFrom (getD (c .before .before .before .before .args .ws .now) atRegMarks 0) 0) CELLS REGS (c .before .loop .i) _ _ (c .before .loop .tags) (omega arith) (omega arith) (bits-more (getD (c .before .before .before .before .args .ws .now) atRegMarks 0) 0 (c .before .loop .i)) (ap (λ (k : ℕ). getD (c .before .before .before .before .args .ws .now) atRegMarks 0 / 2 ^ k % 2) (omega arith)) (c .before .loop .inv)
 
 byte-requires : tie.Need-byte-requires Inv-loop μ-loop
 byte-requires c κs = search needs
@@ -95,7 +96,7 @@ array-write-tags-7 : tie.Need-array-write-tags-7 Inv-loop μ-loop
 array-write-tags-7 c = search needs
 
 returns : tie.Need-returns Inv-loop μ-loop
-returns c = rw (c .before .before .before .before .byte .ensures, c .before .before .before .byte2 .ensures, c .before .before .byte3 .ensures, c .before .byte4 .ensures, c .byte5 .ensures) (six-stored (c .before .before .before .before .before .before .loop .tags) _ _ _ _ _ _ _ (c .before .before .before .before .before .before .loop .inv .long) (filled-part (bitsFrom (getD (c .before .before .before .before .before .before .before .before .before .args .ws .now) 41 0) 0) 38 32 (c .before .before .before .before .before .before .loop .i) (c .before .before .before .before .before .before .loop .tags) (c .before .before .before .before .before .loop-test .left) (c .before .before .before .before .before .before .loop .inv)))
+returns c = rw (c .before .before .before .before .byte .ensures, c .before .before .before .byte2 .ensures, c .before .before .byte3 .ensures, c .before .byte4 .ensures, c .byte5 .ensures) (six-stored (c .before .before .before .before .before .before .loop .tags) _ _ _ _ _ _ _ (c .before .before .before .before .before .before .loop .inv .long) (filled-part (bitsFrom (getD (c .before .before .before .before .before .before .before .before .before .args .ws .now) atRegMarks 0) 0) CELLS REGS (c .before .before .before .before .before .before .loop .i) (c .before .before .before .before .before .before .loop .tags) (c .before .before .before .before .before .loop-test .left) (c .before .before .before .before .before .before .loop .inv)))
 
 pub marks-in-spec : {M : Type 1} → statement M
 marks-in-spec =

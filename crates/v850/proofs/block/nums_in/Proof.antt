@@ -4,18 +4,19 @@ use Prim.Native.Nat.{_-_}
 use native.Mathlib.Omega.{arith}
 use borrow.Author.Needs.{needs}
 use lib.ListN.{take}
+use Rattle.machine.specs.Psw.{REGS, CELLS}
 use Rattle.v850.proofs.Fill.{Filled, filled-none, filled-next, filled-part, take-more, six-stored}
 use Rattle.v850.proofs.block.nums_in.Statement.{statement}
 use Rattle.v850.proofs.block.nums_in.Tie as tie
 
 abbrev Inv-loop : tie.InvT-loop
-Inv-loop ws cells₀ i₀ cells i = Filled (λ n. take n ws) 38 32 i cells
+Inv-loop ws cells₀ i₀ cells i = Filled (λ n. take n ws) CELLS REGS i cells
 
 abbrev μ-loop : tie.MeasureT-loop
-μ-loop ws cells₀ i₀ cells i = 32 - i
+μ-loop ws cells₀ i₀ cells i = REGS - i
 
 loop-holds : tie.Need-loop-holds Inv-loop μ-loop
-loop-holds c = filled-none (λ n. take n (c .args .ws .now)) 38 32 _ refl refl
+loop-holds c = filled-none (λ n. take n (c .args .ws .now)) CELLS REGS _ refl refl
 
 mul-cells : tie.Need-mul-cells Inv-loop μ-loop
 mul-cells c = search needs
@@ -36,7 +37,7 @@ loop-less : tie.Need-loop-less Inv-loop μ-loop
 loop-less c = search needs
 
 loop-again : tie.Need-loop-again Inv-loop μ-loop
-loop-again c = filled-next (λ n. take n (c .before .before .before .args .ws .now)) 38 32 (c .before .before .loop .i) _ _ (c .before .before .loop .cells) (omega arith) (omega arith) (take-more (c .before .before .before .args .ws .now) (c .before .before .loop .i) (omega arith)) refl (c .before .before .loop .inv)
+loop-again c = filled-next (λ n. take n (c .before .before .before .args .ws .now)) CELLS REGS (c .before .before .loop .i) _ _ (c .before .before .loop .cells) (omega arith) (omega arith) (take-more (c .before .before .before .args .ws .now) (c .before .before .loop .i) (omega arith)) refl (c .before .before .loop .inv)
 
 element-copy-out-cells-2 : tie.Need-element-copy-out-cells-2 Inv-loop μ-loop
 element-copy-out-cells-2 c = search needs
@@ -72,7 +73,7 @@ array-write-cells-7 : tie.Need-array-write-cells-7 Inv-loop μ-loop
 array-write-cells-7 c = search needs
 
 returns : tie.Need-returns Inv-loop μ-loop
-returns c = six-stored (c .before .before .before .before .before .before .loop .cells) _ _ _ _ _ _ _ (c .before .before .before .before .before .before .loop .inv .long) (filled-part (λ n. take n (c .before .before .before .before .before .before .before .args .ws .now)) 38 32 (c .before .before .before .before .before .before .loop .i) (c .before .before .before .before .before .before .loop .cells) (c .before .before .before .before .before .loop-test .left) (c .before .before .before .before .before .before .loop .inv))
+returns c = six-stored (c .before .before .before .before .before .before .loop .cells) _ _ _ _ _ _ _ (c .before .before .before .before .before .before .loop .inv .long) (filled-part (λ n. take n (c .before .before .before .before .before .before .before .args .ws .now)) CELLS REGS (c .before .before .before .before .before .before .loop .i) (c .before .before .before .before .before .before .loop .cells) (c .before .before .before .before .before .loop-test .left) (c .before .before .before .before .before .before .loop .inv))
 
 pub nums-in-spec : {M : Type 1} → statement M
 nums-in-spec =

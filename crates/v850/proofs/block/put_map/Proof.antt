@@ -1,6 +1,7 @@
 -- The words up to the map, and k words of the map.
 use native.Mathlib.Omega.{arith}
 use Prim.Native.Nat.{_-_}
+use Rattle.v850.specs.Block.{MAP-WORDS}
 use Rattle.v850.proofs.Fill.{Mapped, mapped-none, mapped-next, mapped-all}
 use borrow.Author.Needs.{needs}
 use Rattle.v850.proofs.block.put_map.Statement.{statement}
@@ -10,7 +11,7 @@ abbrev Inv-loop : tie.InvT-loop
 Inv-loop ws₀ map k₀ ws k = Mapped ws₀ map k ws
 
 abbrev μ-loop : tie.MeasureT-loop
-μ-loop ws₀ map k₀ ws k = 16 - k
+μ-loop ws₀ map k₀ ws k = MAP-WORDS - k
 
 loop-holds : tie.Need-loop-holds Inv-loop μ-loop
 loop-holds c = mapped-none _ (c .args .map .now) (c .pre .0)

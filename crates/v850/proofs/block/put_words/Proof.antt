@@ -5,16 +5,16 @@ use Prim.Native.Nat.{_-_, _*_, _≤_}
 use native.Mathlib.Omega.{arith}
 use borrow.Author.Needs.{needs}
 use lib.ListN.{length, take, drop}
-use Rattle.v850.specs.Block.{bytesOf}
+use Rattle.v850.specs.Block.{BYTES, WORDS, bytesOf}
 use Rattle.v850.proofs.Fill.{bytes-turn, bytes-done}
 use Rattle.v850.proofs.block.put_words.Statement.{statement}
 use Rattle.v850.proofs.block.put_words.Tie as tie
 
 abbrev Inv-loop : tie.InvT-loop
-Inv-loop block₀ ws i₀ block i = (i ≤ 59) × (length block ≡ 236) × (block ≡ bytesOf (take i ws) ++ drop (4 * i) block₀)
+Inv-loop block₀ ws i₀ block i = (i ≤ WORDS) × (length block ≡ BYTES) × (block ≡ bytesOf (take i ws) ++ drop (4 * i) block₀)
 
 abbrev μ-loop : tie.MeasureT-loop
-μ-loop block₀ ws i₀ block i = 59 - i
+μ-loop block₀ ws i₀ block i = WORDS - i
 
 loop-holds : tie.Need-loop-holds Inv-loop μ-loop
 unfolding bytesOf

@@ -4,20 +4,21 @@ use Prim.Native.Nat.{_≤_}
 use native.Mathlib.Omega.{arith}
 use borrow.Author.Needs.{needs}
 use lib.ListN.{take, drop, length-take, drop-of-length-le}
+use Rattle.machine.specs.Psw.{REGS}
 use Rattle.v850.specs.Block.{packBits}
 use Rattle.v850.proofs.Fill.{marks-turn}
 use Rattle.v850.proofs.block.reg_marks.Statement.{statement}
 use Rattle.v850.proofs.block.reg_marks.Tie as tie
 
 abbrev Inv-loop : tie.InvT-loop
-Inv-loop tags r₀ i₀ r i = (i ≤ 32) × (r ≡ packBits (drop i (take 32 tags)))
+Inv-loop tags r₀ i₀ r i = (i ≤ REGS) × (r ≡ packBits (drop i (take REGS tags)))
 
 abbrev μ-loop : tie.MeasureT-loop
 μ-loop tags r₀ i₀ r i = i
 
 loop-holds : tie.Need-loop-holds Inv-loop μ-loop
 unfolding packBits
-loop-holds c = (omega arith, sym (ap packBits (drop-of-length-le (take 32 (c .args .tags .now)) {i = 32} (omega (arith, length-take 32 (c .args .tags .now))))))
+loop-holds c = (omega arith, sym (ap packBits (drop-of-length-le (take REGS (c .args .tags .now)) {i = REGS} (omega (arith, length-take REGS (c .args .tags .now))))))
 
 sub-i : tie.Need-sub-i Inv-loop μ-loop
 sub-i c = search needs

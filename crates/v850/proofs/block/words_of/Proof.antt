@@ -3,6 +3,8 @@ use mathlib.Core.Path.{refl, _∙_}
 use native.Mathlib.Omega.{arith}
 use Prim.Native.Nat.{_-_}
 use lib.ListN.{take, length-set}
+use Rattle.machine.specs.Psw.{REGS}
+use Rattle.v850.specs.Block.{WORDS}
 use Rattle.v850.proofs.Fill.{Filled, filled-none, filled-next, filled-part, take-more, eleven-stored}
 use borrow.Author.Needs.{needs}
 use Rattle.v850.specs.BlockLaws.{formed-marks}
@@ -10,13 +12,13 @@ use Rattle.v850.proofs.block.words_of.Statement.{statement}
 use Rattle.v850.proofs.block.words_of.Tie as tie
 
 abbrev Inv-loop : tie.InvT-loop
-Inv-loop o cells tags map ws₀ i₀ ws i = Filled (λ n. take n cells) 59 32 i ws
+Inv-loop o cells tags map ws₀ i₀ ws i = Filled (λ n. take n cells) WORDS REGS i ws
 
 abbrev μ-loop : tie.MeasureT-loop
-μ-loop o cells tags map ws₀ i₀ ws i = 32 - i
+μ-loop o cells tags map ws₀ i₀ ws i = REGS - i
 
 loop-holds : tie.Need-loop-holds Inv-loop μ-loop
-loop-holds c = filled-none (λ n. take n (c .args .cells .now)) 59 32 _ refl refl
+loop-holds c = filled-none (λ n. take n (c .args .cells .now)) WORDS REGS _ refl refl
 
 mul-ws : tie.Need-mul-ws Inv-loop μ-loop
 mul-ws c = search needs
@@ -41,7 +43,7 @@ loop-again c =
     let args′ = c .before .before .before .args in
     let pre′ = c .before .before .before .pre in
     let loop′ = c .before .before .loop in
-    filled-next (λ n. take n (args′ .cells .now)) 59 32 (loop′ .i) _ _ (loop′ .ws) (omega arith) (omega arith) (take-more (args′ .cells .now) (loop′ .i) (omega (arith, pre′ .0 .cells .nums))) refl (loop′ .inv)
+    filled-next (λ n. take n (args′ .cells .now)) WORDS REGS (loop′ .i) _ _ (loop′ .ws) (omega arith) (omega arith) (take-more (args′ .cells .now) (loop′ .i) (omega (arith, pre′ .0 .cells .nums))) refl (loop′ .inv)
 
 array-write-ws-2 : tie.Need-array-write-ws-2 Inv-loop μ-loop
 array-write-ws-2 c = search needs
@@ -121,7 +123,7 @@ returns c =
     let psw′ = c .before .before .before .before .before .before .before .before .before .before .psw in
     let reg-marks′ = c .before .before .before .reg-marks in
     let sys-marks′ = c .before .before .sys-marks in
-    c .put-map .ensures ∙ eleven-stored (loop′ .ws) _ (args′ .map .now) _ _ _ _ _ _ _ _ _ _ _ _ _ _ (loop′ .inv .long) (filled-part (λ n. take n (args′ .cells .now)) 59 32 (loop′ .i) (loop′ .ws) (loop-test′ .left) (loop′ .inv)) (psw′ .ensures (args′ .tags .now)) (reg-marks′ .ensures) (sys-marks′ .ensures)
+    c .put-map .ensures ∙ eleven-stored (loop′ .ws) _ (args′ .map .now) _ _ _ _ _ _ _ _ _ _ _ _ _ _ (loop′ .inv .long) (filled-part (λ n. take n (args′ .cells .now)) WORDS REGS (loop′ .i) (loop′ .ws) (loop-test′ .left) (loop′ .inv)) (psw′ .ensures (args′ .tags .now)) (reg-marks′ .ensures) (sys-marks′ .ensures)
 
 pub words-of-spec : {M : Type 1} → statement M
 words-of-spec =

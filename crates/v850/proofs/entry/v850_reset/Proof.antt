@@ -6,14 +6,14 @@ use borrow.Author.Needs.{needs}
 use borrow.Author.Tests.{eq-eqb, ne-eqb}
 use lib.ListN.{length}
 use Rattle.machine.specs.Run.{resetOpen, resetCells}
-use Rattle.v850.specs.Block.{bytesOf, wordsOf, mapIn}
+use Rattle.v850.specs.Block.{BYTES, bytesOf, wordsOf, mapIn}
 use Rattle.v850.specs.Entry.{reset}
 use Rattle.v850.proofs.entry.v850_reset.Statement.{statement}
 use Rattle.v850.proofs.entry.v850_reset.Tie as tie
 
 returns : tie.Need-returns
 unfolding reset
-returns c = rw (ne-eqb (length (c .before .before .args .block .now)) 236 (c .if1 .taken))
+returns c = rw (ne-eqb (length (c .before .before .args .block .now)) BYTES (c .if1 .taken))
 
 words-requires : tie.Need-words-requires
 words-requires c κs = search needs
@@ -39,7 +39,7 @@ returns-2 c =
     let map-in′ = c .before .before .before .before .before .before .before .map-in in
     let reset-words′ = c .before .before .before .before .before .reset-words in
     let put-words′ = c .before .before .put-words in
-    rw (eq-eqb (length (args′ .block .now)) 236 (if1′ .left))
+    rw (eq-eqb (length (args′ .block .now)) BYTES (if1′ .left))
     (ap (λ (b : List ℕ). record { answer = 0; block = b })
     (put-words′ .ensures ∙ ap bytesOf (reset-words′ .ensures ∙ ap (wordsOf resetOpen resetCells) (map-in′ .ensures ∙ ap mapIn (words′ .ensures)))))
 

@@ -8,7 +8,7 @@ use native.Mathlib.Omega.{arith}
 use borrow.Author.Needs.{needs}
 use borrow.Author.Tests.{eq-eqb, ne-eqb, le-leb, lt-leb, not-true, not-false}
 use Rattle.machine.specs.Regions.{goodMap}
-use Rattle.v850.specs.Block.{WORDS, mapIn, goodState}
+use Rattle.v850.specs.Block.{BYTES, WORDS, mapIn, goodState}
 use Rattle.v850.specs.PackLaws.{words-length}
 use Rattle.v850.specs.BlockLaws.{map-long}
 use Rattle.v850.specs.Entry.{wordsIn}
@@ -17,16 +17,16 @@ use Rattle.v850.proofs.entry.v850_run.Statement.{statement}
 use Rattle.v850.proofs.entry.v850_run.Tie as tie
 
 returns : tie.Need-returns
-returns c = refused-size (c .before .before .before .before .before .args .block .now) (c .before .before .before .before .before .args .memory .now) (c .before .before .before .before .before .args .marks .now) (c .before .before .before .before .before .args .report .now) (c .before .before .before .before .before .args .budget) (rw (ne-eqb (length (c .before .before .before .before .before .args .block .now)) 236 (c .if1 .taken)))
+returns c = refused-size (c .before .before .before .before .before .args .block .now) (c .before .before .before .before .before .args .memory .now) (c .before .before .before .before .before .args .marks .now) (c .before .before .before .before .before .args .report .now) (c .before .before .before .before .before .args .budget) (rw (ne-eqb (length (c .before .before .before .before .before .args .block .now)) BYTES (c .if1 .taken)))
 
 returns-2 : tie.Need-returns-2
-returns-2 c = refused-size (c .before .before .before .before .before .before .args .block .now) (c .before .before .before .before .before .before .args .memory .now) (c .before .before .before .before .before .before .args .marks .now) (c .before .before .before .before .before .before .args .report .now) (c .before .before .before .before .before .before .args .budget) (rw (eq-eqb (length (c .before .before .before .before .before .before .args .block .now)) 236 (c .before .if1 .left), ne-eqb (length (c .before .before .before .before .before .before .args .report .now)) 8 (c .if2 .taken)))
+returns-2 c = refused-size (c .before .before .before .before .before .before .args .block .now) (c .before .before .before .before .before .before .args .memory .now) (c .before .before .before .before .before .before .args .marks .now) (c .before .before .before .before .before .before .args .report .now) (c .before .before .before .before .before .before .args .budget) (rw (eq-eqb (length (c .before .before .before .before .before .before .args .block .now)) BYTES (c .before .if1 .left), ne-eqb (length (c .before .before .before .before .before .before .args .report .now)) 8 (c .if2 .taken)))
 
 returns-3 : tie.Need-returns-3
-returns-3 c = refused-size (c .before .before .before .before .before .before .before .args .block .now) (c .before .before .before .before .before .before .before .args .memory .now) (c .before .before .before .before .before .before .before .args .marks .now) (c .before .before .before .before .before .before .before .args .report .now) (c .before .before .before .before .before .before .before .args .budget) (rw (eq-eqb (length (c .before .before .before .before .before .before .before .args .block .now)) 236 (c .before .before .if1 .left), eq-eqb (length (c .before .before .before .before .before .before .before .args .report .now)) 8 (c .before .if2 .left), lt-leb (length (c .before .before .before .before .before .before .before .args .memory .now)) 65536 (c .if3 .taken)))
+returns-3 c = refused-size (c .before .before .before .before .before .before .before .args .block .now) (c .before .before .before .before .before .before .before .args .memory .now) (c .before .before .before .before .before .before .before .args .marks .now) (c .before .before .before .before .before .before .before .args .report .now) (c .before .before .before .before .before .before .before .args .budget) (rw (eq-eqb (length (c .before .before .before .before .before .before .before .args .block .now)) BYTES (c .before .before .if1 .left), eq-eqb (length (c .before .before .before .before .before .before .before .args .report .now)) 8 (c .before .if2 .left), lt-leb (length (c .before .before .before .before .before .before .before .args .memory .now)) 65536 (c .if3 .taken)))
 
 returns-4 : tie.Need-returns-4
-returns-4 c = refused-size (c .before .before .before .before .before .before .before .before .args .block .now) (c .before .before .before .before .before .before .before .before .args .memory .now) (c .before .before .before .before .before .before .before .before .args .marks .now) (c .before .before .before .before .before .before .before .before .args .report .now) (c .before .before .before .before .before .before .before .before .args .budget) (rw (eq-eqb (length (c .before .before .before .before .before .before .before .before .args .block .now)) 236 (c .before .before .before .if1 .left), eq-eqb (length (c .before .before .before .before .before .before .before .before .args .report .now)) 8 (c .before .before .if2 .left), le-leb (length (c .before .before .before .before .before .before .before .before .args .memory .now)) 65536 (c .before .if3 .left), ne-eqb (length (c .before .before .before .before .before .before .before .before .args .marks .now)) (length (c .before .before .before .before .before .before .before .before .args .memory .now)) (c .if4 .taken)))
+returns-4 c = refused-size (c .before .before .before .before .before .before .before .before .args .block .now) (c .before .before .before .before .before .before .before .before .args .memory .now) (c .before .before .before .before .before .before .before .before .args .marks .now) (c .before .before .before .before .before .before .before .before .args .report .now) (c .before .before .before .before .before .before .before .before .args .budget) (rw (eq-eqb (length (c .before .before .before .before .before .before .before .before .args .block .now)) BYTES (c .before .before .before .if1 .left), eq-eqb (length (c .before .before .before .before .before .before .before .before .args .report .now)) 8 (c .before .before .if2 .left), le-leb (length (c .before .before .before .before .before .before .before .before .args .memory .now)) 65536 (c .before .if3 .left), ne-eqb (length (c .before .before .before .before .before .before .before .before .args .marks .now)) (length (c .before .before .before .before .before .before .before .before .args .memory .now)) (c .if4 .taken)))
 
 words-requires : tie.Need-words-requires
 words-requires c κs = search needs
