@@ -17,7 +17,7 @@ use Rattle.machine.specs.declared.Kind.{Kind}
 use Rattle.machine.specs.declared.Kind.the-variants.{Quiet, Logic, Mask, Shift, Divide, Arith, Saturate}
 use Rattle.machine.specs.declared.Tv.{Tv}
 use Rattle.machine.specs.Marked.{Cells, both, put, markOf}
-use Rattle.machine.specs.Psw.{putReg, rulesOf, followAll, told, everyFlag, quiet, setFlags, withZ, setZ}
+use Rattle.machine.specs.Psw.{REGS, PSW, sys, putReg, rulesOf, followAll, told, everyFlag, quiet, setFlags, withZ, setZ}
 
 -- one bit where it stands, and the bits from j on as bit j and those above it
 worth : (p r : ℕ) → r < 2 → cond (eqb r 1) p 0 ≡ r * p
@@ -110,37 +110,37 @@ raised b x y n = omega (arith, at-bit b (n / 16 % 2) (omega arith))
 
 -- the flags' cells after an operation that sets flags
 pub set-flags : (k : Kind) → quiet k ≡ false → (a : Computed) (mark : Bool) (c : Cells) →
-    both (set (c .nums) 37 (new k (told a) + stay k (told a) (getD (c .nums) 37 0)))
-    (set (c .marks) 37 (cond mark (new k (everyFlag true)) 0 + stay k (everyFlag mark) (getD (c .marks) 37 0)))
+    both (set (c .nums) (sys PSW) (new k (told a) + stay k (told a) (getD (c .nums) (sys PSW) 0)))
+    (set (c .marks) (sys PSW) (cond mark (new k (everyFlag true)) 0 + stay k (everyFlag mark) (getD (c .marks) (sys PSW) 0)))
     ≡ setFlags k a mark c
 unfolding setFlags
 set-flags k q a mark c =
     rw q
-    (ap₂ (λ (x y : ℕ). both (set (c .nums) 37 x) (set (c .marks) 37 y))
+    (ap₂ (λ (x y : ℕ). both (set (c .nums) (sys PSW) x) (set (c .marks) (sys PSW) y))
     (follows k (told a) _)
-    (ap (λ (x : ℕ). x + stay k (everyFlag mark) (getD (c .marks) 37 0)) (all k mark) ∙ follows k (everyFlag mark) _))
+    (ap (λ (x : ℕ). x + stay k (everyFlag mark) (getD (c .marks) (sys PSW) 0)) (all k mark) ∙ follows k (everyFlag mark) _))
 
 pub no-z : {mark : Bool} {n : ℕ} → mark ≡ false → n ≡ 0 → cond mark 1 0 + n / 2 % 16 * 2 ≡ 0
 no-z e z = ap₂ (λ (b : Bool) (x : ℕ). cond b 1 0 + x / 2 % 16 * 2) e z
 
 pub set-z : (z mark : Bool) (c : Cells) →
-    both (set (c .nums) 37 (cond z 1 0 + getD (c .nums) 37 0 / 2 % 16 * 2))
-    (set (c .marks) 37 (cond mark 1 0 + getD (c .marks) 37 0 / 2 % 16 * 2))
+    both (set (c .nums) (sys PSW) (cond z 1 0 + getD (c .nums) (sys PSW) 0 / 2 % 16 * 2))
+    (set (c .marks) (sys PSW) (cond mark 1 0 + getD (c .marks) (sys PSW) 0 / 2 % 16 * 2))
     ≡ setZ z mark c
 unfolding setZ
-set-z z mark c = ap₂ (λ (x y : ℕ). both (set (c .nums) 37 x) (set (c .marks) 37 y)) (with-z z _) (with-z mark _)
+set-z z mark c = ap₂ (λ (x y : ℕ). both (set (c .nums) (sys PSW) x) (set (c .marks) (sys PSW) y)) (with-z z _) (with-z mark _)
   where
     with-z : (b : Bool) (n : ℕ) → cond b 1 0 + n / 2 % 16 * 2 ≡ packed (withZ b (unpacked n))
     with-z b n = omega (arith, from1 n)
 
 -- The flags may be written before the register, as they lie in another cell
-elsewhere : (l : List ℕ) (i x : ℕ) (f : ℕ → ℕ) → i < 32 → set (set l 37 (f (getD l 37 0))) i x ≡ set (set l i x) 37 (f (getD (set l i x) 37 0))
+elsewhere : (l : List ℕ) (i x : ℕ) (f : ℕ → ℕ) → i < REGS → set (set l (sys PSW) (f (getD l (sys PSW) 0))) i x ≡ set (set l i x) (sys PSW) (f (getD (set l i x) (sys PSW) 0))
 elsewhere l i x f h =
-    set-comm l 37 i _ x (λ e. omega (arith, e)) ∙ ap (λ (n : ℕ). set (set l i x) 37 (f n)) (sym (getD-set-other l i 37 x 0 (λ e. omega (arith, e))))
+    set-comm l (sys PSW) i _ x (λ e. omega (arith, e)) ∙ ap (λ (n : ℕ). set (set l i x) (sys PSW) (f n)) (sym (getD-set-other l i (sys PSW) x 0 (λ e. omega (arith, e))))
 
 pub flags-first : (k : Kind) (a : Computed) (mark : Bool) (r : ℕ) (v : Tv) (c : Cells) → putReg r v (setFlags k a mark c) ≡ setFlags k a mark (putReg r v c)
 unfolding putReg setFlags
-flags-first k a mark r v c = go (quiet k) (eqb (r % 32) 0)
+flags-first k a mark r v c = go (quiet k) (eqb (r % REGS) 0)
   where
     F : ℕ → ℕ
     F n = packed (followAll (rulesOf k) (unpacked n) (told a))
@@ -149,10 +149,10 @@ flags-first k a mark r v c = go (quiet k) (eqb (r % 32) 0)
     G n = packed (followAll (rulesOf k) (unpacked n) (everyFlag mark))
 
     Flagged : Cells → Cells
-    Flagged d = both (set (d .nums) 37 (F (getD (d .nums) 37 0))) (set (d .marks) 37 (G (getD (d .marks) 37 0)))
+    Flagged d = both (set (d .nums) (sys PSW) (F (getD (d .nums) (sys PSW) 0))) (set (d .marks) (sys PSW) (G (getD (d .marks) (sys PSW) 0)))
 
-    go : (q z : Bool) → cond z (cond q c (Flagged c)) (put (r % 32) v (cond q c (Flagged c))) ≡ cond q (cond z c (put (r % 32) v c)) (Flagged (cond z c (put (r % 32) v c)))
+    go : (q z : Bool) → cond z (cond q c (Flagged c)) (put (r % REGS) v (cond q c (Flagged c))) ≡ cond q (cond z c (put (r % REGS) v c)) (Flagged (cond z c (put (r % REGS) v c)))
     go true true = refl
     go true false = refl
     go false true = refl
-    go false false = ap₂ both (elsewhere (c .nums) (r % 32) (v .val) F (omega arith)) (elsewhere (c .marks) (r % 32) (markOf (v .mark)) G (omega arith))
+    go false false = ap₂ both (elsewhere (c .nums) (r % REGS) (v .val) F (omega arith)) (elsewhere (c .marks) (r % REGS) (markOf (v .mark)) G (omega arith))

@@ -8,6 +8,7 @@ use lib.Seq.{set-getD}
 use borrow.Author.Needs.{needs}
 use borrow.Author.Tests.{eqb-true, not-false}
 use Rattle.machine.specs.Marked.{marked}
+use Rattle.machine.specs.Psw.{PSW, sys}
 use Rattle.state.proofs.psw.put_marks.Statement.{statement}
 use Rattle.state.proofs.psw.put_marks.Tie as tie
 
@@ -29,7 +30,7 @@ returns c = search needs
 returns-2 : tie.Need-returns-2
 returns-2 c =
     let a = c .before .before .args in
-    kept _ 37 (a .m) (a .mark) (c .if1 .left) (c .before .before .pre)
+    kept _ (sys PSW) (a .m) (a .mark) (c .if1 .left) (c .before .before .pre)
 
 pub put-marks-spec : {M : Type 1} → statement M
 put-marks-spec = tie.close (tie.spec element-copy-out-if1 element-write-tags returns returns-2)

@@ -7,6 +7,7 @@ use lib.ListN.{getD}
 use borrow.Author.Needs.{needs}
 use denote.Ref.{now}
 use Rattle.machine.specs.declared.Kind.the-variants.{Saturate}
+use Rattle.machine.specs.Psw.{PSW, sys}
 use Rattle.state.proofs.Flags.{none, raised, set-flags}
 use Rattle.state.proofs.psw.saturate_flags.Statement.{statement}
 use Rattle.state.proofs.psw.saturate_flags.Tie as tie
@@ -41,7 +42,7 @@ add-cells-2 c = search needs
 add-cells-3 : tie.Need-add-cells-3
 add-cells-3 c =
     let s = c .before .before .before .before in
-    let kept = getD (now (s .before .before .args .cells)) 37 0 / 16 % 2 * 16 in
+    let kept = getD (now (s .before .before .args .cells)) (sys PSW) 0 / 16 % 2 * 16 in
     record { fits = omega (arith, or-lt 5 kept (s .on .result) (omega arith) (omega arith)) }
 
 element-write-cells : tie.Need-element-write-cells
