@@ -1,6 +1,8 @@
 pub mod Coding
 pub mod Within
 pub mod Arms
-pub mod CodingLaws
+pub mod FieldLaws
+pub mod SpellingLaws
+pub mod DecodingLaws
 pub mod RoundTrip
 pub mod Numbers

@@ -4,7 +4,6 @@ use mathlib.Core.Bool.{Bool, true, false, cond, true≢false}
 use mathlib.Core.List.{[]}
 use mathlib.Core.Logic.{_⊎_, inl, inr, _≢_, _↔_}
 use Prim.Native.Nat.{ℕ, _<_, _^_}
-use native.Mathlib.Omega.{arith}
 use borrow.Author.Tests.{le-leb}
 use Rattle.insn.specs.declared.Insn.{Insn}
 use Rattle.insn.specs.declared.Decoded.{Decoded}
@@ -12,7 +11,9 @@ use Rattle.insn.specs.declared.Decoded.the-variants.{Valid, Illegal, Und
 use Rattle.insn.specs.declared.Encoded.{Encoded}
 use Rattle.insn.specs.declared.Encoded.the-variants.{One, Two, Field}
 use Rattle.insn.specs.Coding.{opcodeOf, long, decodeFields, decode, inRange, halfwords, encode, DONE, FIELD, number, listed}
-use Rattle.insn.specs.CodingLaws.{facts, Spells, encode-spells, Encodes, EncodesTo, decode-encodes}
+use Rattle.insn.specs.FieldLaws.{facts}
+use Rattle.insn.specs.SpellingLaws.{Spells, encode-spells}
+use Rattle.insn.specs.DecodingLaws.{Encodes, EncodesTo, decode-encodes}
 
 spelled : (i : Insn) {e : Encoded} → encode i ≡ e → Spells e i
 spelled i e = subst (λ e. Spells e i) e (encode-spells i)

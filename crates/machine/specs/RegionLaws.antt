@@ -1,21 +1,18 @@
 -- A good map: an operand that is found lies in memory whole, and in one place.
 use mathlib.Core.Path.{_≡_, refl, sym, ap, _∙_}
-use mathlib.Core.Bool.{Bool, true, false, cond, _&&_, _||_}
+use mathlib.Core.Bool.{Bool, true, false, cond, _||_}
 use mathlib.Core.List.{List}
 use Prim.Native.Nat.{ℕ, zero, suc, _+_, _-_, _/_, _%_, _^_, _≤_, _<_}
 use native.Mathlib.Omega.{arith}
 use lib.Dec.{eqb, ltb}
 use borrow.Author.Tests.{ltb-true, ltb-false, leb-true, eqb-true, ne-eqb, lt-leb}
+use Rattle.word.specs.Tests.{both-true}
 use Rattle.insn.specs.declared.Size.{Size}
 use Rattle.insn.specs.declared.Size.the-variants.{Byte, Half, Word}
 use Rattle.machine.specs.declared.Spot.{Spot}
 use Rattle.machine.specs.declared.Spot.the-variants.{At}
 use Rattle.machine.specs.Regions.{base, size, offset, rights, covers, findFrom, find, unused, bounded, goodRegion, separate, goodMap}
 use Rattle.machine.specs.Memory.{width, aligned}
-
-pub and-true : (a b : Bool) → (a && b) ≡ true → (a ≡ true) × (b ≡ true)
-and-true true b h = (refl, h)
-and-true false b h = let z : _≡_ {A = ℕ} 0 1 = cc in absurd (omega arith)
 
 or-rest : (a b : Bool) → (a || b) ≡ true → a ≡ false → b ≡ true
 or-rest true b h e = let z : _≡_ {A = ℕ} 0 1 = cc in absurd (omega arith)
@@ -30,8 +27,8 @@ pub record Covers (map : List ℕ) (right a k : ℕ) : Type 0 where
 pub covered : (map : List ℕ) (right a k : ℕ) → covers map right a k ≡ true → Covers map right a k
 unfolding covers
 covered map right a k h =
-    let h1 = and-true _ _ h in
-    let h2 = and-true _ _ (h1 .1) in
+    let h1 = both-true _ _ h in
+    let h2 = both-true _ _ (h1 .1) in
     record { above = leb-true _ _ (h1 .0); below = ltb-true _ _ (h2 .0); allowed = eqb-true _ _ (h2 .1) }
 
 -- a used region of a good map
@@ -48,10 +45,10 @@ used map n k h u = go (eqb (size map k) 0) refl h
     go : (t : Bool) → eqb (size map k) 0 ≡ t → cond t (unused map k) (bounded map n k) ≡ true → Bounded map n k
     go true e h = absurd (omega (arith, eqb-true (size map k) 0 e))
     go false e h =
-        let g1 = and-true _ _ h in
-        let g2 = and-true _ _ (g1 .1) in
-        let g3 = and-true _ _ (g2 .1) in
-        let g4 = and-true _ _ (g3 .1) in
+        let g1 = both-true _ _ h in
+        let g2 = both-true _ _ (g1 .1) in
+        let g3 = both-true _ _ (g2 .1) in
+        let g4 = both-true _ _ (g3 .1) in
         record {
           base4 = eqb-true _ _ (g1 .0);
           size4 = eqb-true _ _ (g2 .0);
@@ -95,7 +92,7 @@ unfolding separate
 disjoint map right other a j k h c d =
     let h1 = or-rest _ _ h (ne-eqb (size map j) 0 (λ e. omega (arith, c .below))) in
     let h2 = or-rest _ _ h1 (ne-eqb (size map k) 0 (λ e. omega (arith, d .below))) in
-    let h3 = and-true _ _ h2 .0 in
+    let h3 = both-true _ _ h2 .0 in
     let h4 = or-rest _ _ h3 (lt-leb (base map j + size map j) (base map k) (omega arith)) in
     omega (arith, leb-true (base map k + size map k) (base map j) h4)
 
@@ -105,15 +102,15 @@ module _ (map : List ℕ) (n : ℕ) (good : goodMap map n ≡ true) where
       × (separate map 1 2 ≡ true) × (separate map 1 3 ≡ true) × (separate map 2 3 ≡ true)
   unfolding goodMap
   parts =
-      let g0 = and-true _ _ good in
-      let g1 = and-true _ _ (g0 .1) in
-      let g2 = and-true _ _ (g1 .1) in
-      let g3 = and-true _ _ (g2 .1) in
-      let g4 = and-true _ _ (g3 .1) in
-      let g5 = and-true _ _ (g4 .1) in
-      let g6 = and-true _ _ (g5 .1) in
-      let g7 = and-true _ _ (g6 .1) in
-      let g8 = and-true _ _ (g7 .1) in
+      let g0 = both-true _ _ good in
+      let g1 = both-true _ _ (g0 .1) in
+      let g2 = both-true _ _ (g1 .1) in
+      let g3 = both-true _ _ (g2 .1) in
+      let g4 = both-true _ _ (g3 .1) in
+      let g5 = both-true _ _ (g4 .1) in
+      let g6 = both-true _ _ (g5 .1) in
+      let g7 = both-true _ _ (g6 .1) in
+      let g8 = both-true _ _ (g7 .1) in
       (g0 .0, g1 .0, g2 .0, g3 .0, g4 .0, g5 .0, g6 .0, g7 .0, g8 .0, g8 .1)
 
   pub good-at : (k : ℕ) → k < 4 → goodRegion map n k ≡ true

@@ -8,8 +8,9 @@ use lib.Dec.{eqb, ltb, leb}
 use lib.ListN.{getD}
 use borrow.Author.Tests.{eqb-true, eq-eqb, leb-true, le-leb, lt-ltb, le-ltb, ltb-true, ltb-false}
 use Rattle.word.specs.Sums.{difference}
+use Rattle.word.specs.Tests.{both-true}
 use Rattle.machine.specs.Regions.{base, size, offset, rights, covers, goodRegion, unused, goodMap}
-use Rattle.machine.specs.RegionLaws.{four, and-true, used, good-at, covered, disjoint, separate-at}
+use Rattle.machine.specs.RegionLaws.{four, used, good-at, covered, disjoint, separate-at}
 use Rattle.state.specs.Windows.{seen, Sizes, Laid}
 
 module _ (map : List ℕ) (n a k : ℕ) (within : base map k + size map k ≤ 2 ^ 24) (word : a < 2 ^ 32) where
@@ -45,7 +46,7 @@ unused-zero : (map : List ℕ) (n k : ℕ) → goodRegion map n k ≡ true → s
 unfolding goodRegion
 unused-zero map n k h e =
     let g : unused map k ≡ true = rw (eq-eqb (size map k) 0 e) at h in
-    let g1 = and-true _ _ g in (eqb-true (base map k) 0 (g1 .0), eqb-true (offset map k) 0 (and-true _ _ (g1 .1) .0))
+    let g1 = both-true _ _ g in (eqb-true (base map k) 0 (g1 .0), eqb-true (offset map k) 0 (both-true _ _ (g1 .1) .0))
 
 -- a good map's regions stay below the end of the addresses and of memory, and do not overlap
 pub good-laid : (map : List ℕ) (n : ℕ) → n ≤ 2 ^ 16 → goodMap map n ≡ true → Laid map

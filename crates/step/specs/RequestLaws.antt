@@ -1,18 +1,15 @@
 -- The order of a step's checks, from the tests that code makes one by one.
-use mathlib.Core.Path.{_≡_, refl}
-use mathlib.Core.Bool.{Bool, true, false, _||_, true≢false}
+use mathlib.Core.Path.{_≡_}
+use mathlib.Core.Bool.{true, false}
 use mathlib.Core.List.{List}
 use Prim.Native.Nat.{ℕ}
 use lib.Dec.{eqb}
+use Rattle.word.specs.Tests.{both-false}
 use Rattle.machine.specs.declared.Open.{Open}
 use Rattle.machine.specs.declared.Answer.the-variants.{Asleep}
 use Rattle.machine.specs.Marked.{Cells}
 use Rattle.machine.specs.Step.{Outcome, refuse, instruction, nmiAccepted, codeAccepted, takeNmi, takeCode, step}
 use Rattle.step.specs.Tasks.{acts}
-
-neither : (a b : Bool) → (a || b) ≡ false → (a ≡ false) × (b ≡ false)
-neither true b e = absurd (true≢false e)
-neither false b e = (refl, e)
 
 module _ (map : List ℕ) (o : Open) (c m : Cells) {x : Outcome} where
   pub step-nmi : nmiAccepted o ≡ true → x ≡ takeNmi o c m → x ≡ step map o c m
@@ -32,6 +29,6 @@ module _ (map : List ℕ) (o : Open) (c m : Cells) {x : Outcome} where
   pub step-instruction : acts o ≡ false → x ≡ instruction map o c m → x ≡ step map o c m
   unfolding step
   step-instruction a q =
-      let h = neither (nmiAccepted o) _ a in
-      let k = neither (codeAccepted o) _ (h .1) in
+      let h = both-false (nmiAccepted o) _ a in
+      let k = both-false (codeAccepted o) _ (h .1) in
       rw (h .0, k .0, k .1) q

@@ -3,14 +3,14 @@ use mathlib.Core.Path.{_≡_, refl, subst}
 use mathlib.Core.Bool.{Bool, true, cond, _&&_}
 use Prim.Native.Nat.{ℕ, _^_, _<_}
 use borrow.Author.Tests.{ltb-true}
+use Rattle.word.specs.Tests.{both-true}
 use Rattle.insn.specs.declared.Insn.{Insn}
 use Rattle.insn.specs.declared.Insn.the-variants.{Reg, Jmp, Imm5, Sld, Sst, Bcond, Imm16, Ld, St, Jarl, Bit, Setf, Ldsr, Stsr, Shift, Trap, Halt, Reti, Di, Ei}
 use Rattle.insn.specs.declared.Decoded.{Decoded}
 use Rattle.insn.specs.declared.Decoded.the-variants as decoded
 use Rattle.insn.specs.Coding.{imm5Shifts, imm16Plain, loads, stores, isReg, isCondition, isSigned, isUnsigned, multiple, isShortDisp, isLongDisp, inRange, half, decodeFields, decode}
-use Rattle.insn.specs.CodingLaws.{fields}
+use Rattle.insn.specs.FieldLaws.{fields}
 use Rattle.insn.specs.RoundTrip.{decode-in-range}
-use Rattle.machine.specs.RegionLaws.{and-true}
 use Rattle.step.specs.Tasks.{DecodedFields}
 
 abbrev pub Operands : Insn → Type 0
@@ -36,10 +36,10 @@ Operands Di = Unit
 Operands Ei = Unit
 
 last : (a : Bool) {r : ℕ} → (a && isReg r) ≡ true → r < 32
-last a {r} h = ltb-true r 32 (and-true a (isReg r) h .1)
+last a {r} h = ltb-true r 32 (both-true a (isReg r) h .1)
 
 two : {q r : ℕ} → (isReg q && isReg r) ≡ true → (q < 32) × (r < 32)
-two {q} {r} h = let g = and-true (isReg q) (isReg r) h in (ltb-true q 32 (g .0), ltb-true r 32 (g .1))
+two {q} {r} h = let g = both-true (isReg q) (isReg r) h in (ltb-true q 32 (g .0), ltb-true r 32 (g .1))
 
 operands : (i : Insn) → inRange i ≡ true → Operands i
 unfolding inRange
@@ -49,14 +49,14 @@ operands (Imm5 op imm reg2) h = last (cond (imm5Shifts op) (isUnsigned 5 imm) (i
 operands (Sld size disp reg2) h = last (isShortDisp size disp) h
 operands (Sst size disp reg2) h = last (isShortDisp size disp) h
 operands (Bcond cc disp) h = tt
-operands (Imm16 op imm reg1 reg2) h = two (and-true (cond (imm16Plain op) (isUnsigned 16 imm) (isSigned 16 imm)) _ h .1)
-operands (Ld size disp reg1 reg2) h = two (and-true (isLongDisp size disp) _ h .1)
-operands (St size disp reg1 reg2) h = two (and-true (isLongDisp size disp) _ h .1)
-operands (Jarl disp reg2) h = last (multiple 2 disp) (and-true (isSigned 22 disp) _ h .1)
+operands (Imm16 op imm reg1 reg2) h = two (both-true (cond (imm16Plain op) (isUnsigned 16 imm) (isSigned 16 imm)) _ h .1)
+operands (Ld size disp reg1 reg2) h = two (both-true (isLongDisp size disp) _ h .1)
+operands (St size disp reg1 reg2) h = two (both-true (isLongDisp size disp) _ h .1)
+operands (Jarl disp reg2) h = last (multiple 2 disp) (both-true (isSigned 22 disp) _ h .1)
 operands (Bit op n disp reg1) h =
-    let g = and-true (isUnsigned 3 n) (isSigned 16 disp && isReg reg1) h in (ltb-true _ _ (g .0), last (isSigned 16 disp) (g .1))
+    let g = both-true (isUnsigned 3 n) (isSigned 16 disp && isReg reg1) h in (ltb-true _ _ (g .0), last (isSigned 16 disp) (g .1))
 operands (Setf cc reg2) h = last (isCondition cc) h
-operands (Ldsr reg2 regid) h = ltb-true _ _ (and-true (isReg reg2) (loads regid) h .0)
+operands (Ldsr reg2 regid) h = ltb-true _ _ (both-true (isReg reg2) (loads regid) h .0)
 operands (Stsr regid reg2) h = last (stores regid) h
 operands (Shift op reg1 reg2) h = two h
 operands (Trap vector) h = ltb-true _ _ h

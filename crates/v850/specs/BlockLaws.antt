@@ -1,6 +1,6 @@
 -- The block taken apart and put together: each undoes the other, for blocks that pass the tests of STATE.
-use mathlib.Core.Path.{_≡_, refl, sym, ap, ap₂, _∙_, subst}
-use mathlib.Core.Bool.{Bool, true, false, _&&_}
+use mathlib.Core.Path.{_≡_, sym, ap, ap₂, _∙_, subst}
+use mathlib.Core.Bool.{true}
 use mathlib.Core.List.{List, [], _∷_, _++_}
 use Prim.Native.Nat.{ℕ, suc, _+_, _*_, _/_, _%_, _^_, _≤_, _<_}
 use native.Mathlib.Omega.{arith}
@@ -9,6 +9,7 @@ use lib.Pow.{pow-mono}
 use lib.ListN.{length, getD, take, drop, length-drop, length-append, List·getD-append}
 use lib.Seq.{length-take-le, take-at, getD-take, getD-drop, slice-cons, length-slice}
 use borrow.Author.Tests.{ltb-true, lt-ltb, leb-true, le-leb, eqb-true, eq-eqb}
+use Rattle.word.specs.Tests.{both-true, true-both}
 use Rattle.machine.specs.declared.Open.{Open}
 use Rattle.machine.specs.Marked.{Cells, both}
 use Rattle.machine.specs.Psw.{REGS, sys, EIPC, EIPSW, FEPC, FEPSW, ECR, PSW, CELLS, psw}
@@ -18,7 +19,7 @@ use Rattle.machine.specs.Invariants.{reset-well-formed}
 use Rattle.v850.specs.Block.{bitsFrom, packBits, byte, atPC, atPSW, atEIPC, atEIPSW, atFEPC, atFEPSW, atECR, atCode, atWaits, atRegMarks, atSysMarks, atMap, MAP-WORDS, WORDS, mapIn, coreIn, numsIn, marksIn, cellsIn, wordsOf, goodState}
 use Rattle.v850.specs.PackLaws.{Below, below-append, below-cons, below-take, pack-lt, bits-length, bits-below, bits-pack, pack-bits}
 use Rattle.v850.specs.PartLaws.{psw-parts, psw-whole, waits-parts, waits-whole, marks-parts, marks-whole}
-use Rattle.v850.specs.Places.{after, drop-after, of-cells, six-there, eleven-there}
+use Rattle.v850.specs.PlaceLaws.{after, drop-after, of-cells, six-there, eleven-there}
 
 -- the map in a block's words
 pub map-long : (ws : List ℕ) → length ws ≡ WORDS → length (mapIn ws) ≡ MAP-WORDS
@@ -193,34 +194,24 @@ pub record Passed (ws : List ℕ) : Type 0 where
   pub psw-marks : byte 0 (getD ws atSysMarks 0) < 2 ^ 5
   pub pc-marks : byte 3 (getD ws atSysMarks 0) ≤ 3
 
-and-true : {a b : Bool} → (a && b) ≡ true → (a ≡ true) × (b ≡ true)
-and-true {a} {b} h = go a b h
-  where
-    go : (a b : Bool) → (a && b) ≡ true → (a ≡ true) × (b ≡ true)
-    go true b h = (refl, h)
-    go false b h = let z : _≡_ {A = ℕ} 0 1 = cc in absurd (omega arith)
-
-true-and : {a b : Bool} → a ≡ true → b ≡ true → (a && b) ≡ true
-true-and p q = rw (p, q)
-
 pub passed : (ws : List ℕ) → goodState ws ≡ true → Passed ws
 unfolding goodState
 passed ws h =
-    let h1 = and-true h in
-    let h2 = and-true (h1 .1) in
-    let h3 = and-true (h2 .1) in
-    let h4 = and-true (h3 .1) in
-    let h5 = and-true (h4 .1) in
-    let h6 = and-true (h5 .1) in
-    let h7 = and-true (h6 .1) in
-    let h8 = and-true (h7 .1) in
-    let h9 = and-true (h8 .1) in
-    let h10 = and-true (h9 .1) in
-    let h11 = and-true (h10 .1) in
-    let h12 = and-true (h11 .1) in
-    let h13 = and-true (h12 .1) in
-    let h14 = and-true (h13 .1) in
-    let h15 = and-true (h14 .1) in
+    let h1 = both-true _ _ h in
+    let h2 = both-true _ _ (h1 .1) in
+    let h3 = both-true _ _ (h2 .1) in
+    let h4 = both-true _ _ (h3 .1) in
+    let h5 = both-true _ _ (h4 .1) in
+    let h6 = both-true _ _ (h5 .1) in
+    let h7 = both-true _ _ (h6 .1) in
+    let h8 = both-true _ _ (h7 .1) in
+    let h9 = both-true _ _ (h8 .1) in
+    let h10 = both-true _ _ (h9 .1) in
+    let h11 = both-true _ _ (h10 .1) in
+    let h12 = both-true _ _ (h11 .1) in
+    let h13 = both-true _ _ (h12 .1) in
+    let h14 = both-true _ _ (h13 .1) in
+    let h15 = both-true _ _ (h14 .1) in
     record {
       r0 = eqb-true _ _ (h1 .0);
       r0-mark = eqb-true _ _ (h2 .0);
@@ -243,11 +234,11 @@ passed ws h =
 pub passes : (ws : List ℕ) → Passed ws → goodState ws ≡ true
 unfolding goodState
 passes ws p =
-    true-and (eq-eqb _ _ (p .r0)) (true-and (eq-eqb _ _ (p .r0-mark)) (true-and (eq-eqb _ _ (p .pc-even)) (true-and (le-leb _ _ (p .pc))
-    (true-and (le-leb _ _ (p .psw)) (true-and (le-leb _ _ (p .eipsw)) (true-and (le-leb _ _ (p .fepsw))
-    (true-and (le-leb _ _ (p .eipc)) (true-and (le-leb _ _ (p .fepc)) (true-and (p .code)
-    (true-and (le-leb _ _ (p .halted)) (true-and (le-leb _ _ (p .nmi)) (true-and (eq-eqb _ _ (p .filler)) (true-and (eq-eqb _ _ (p .filler2))
-    (true-and (lt-ltb _ _ (p .psw-marks)) (le-leb _ _ (p .pc-marks))))))))))))))))
+    true-both (eq-eqb _ _ (p .r0)) (true-both (eq-eqb _ _ (p .r0-mark)) (true-both (eq-eqb _ _ (p .pc-even)) (true-both (le-leb _ _ (p .pc))
+    (true-both (le-leb _ _ (p .psw)) (true-both (le-leb _ _ (p .eipsw)) (true-both (le-leb _ _ (p .fepsw))
+    (true-both (le-leb _ _ (p .eipc)) (true-both (le-leb _ _ (p .fepc)) (true-both (p .code)
+    (true-both (le-leb _ _ (p .halted)) (true-both (le-leb _ _ (p .nmi)) (true-both (eq-eqb _ _ (p .filler)) (true-both (eq-eqb _ _ (p .filler2))
+    (true-both (lt-ltb _ _ (p .psw-marks)) (le-leb _ _ (p .pc-marks))))))))))))))))
 
 -- What a well-formed state puts together is words.
 pub formed-words : (o : Open) (c : Cells) (map : List ℕ) → WellFormed o c → Below (2 ^ 32) map → Below (2 ^ 32) (wordsOf o c map)

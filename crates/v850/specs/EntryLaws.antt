@@ -8,7 +8,8 @@ use lib.Dec.{eqb, leb}
 use lib.ListN.{length, take, drop}
 use borrow.Author.Tests.{eqb-true, eqb-false}
 use Rattle.machine.specs.Regions.{goodMap, goodRegion, base, offset, size, unused}
-use Rattle.machine.specs.RegionLaws.{and-true, used, good-at}
+use Rattle.word.specs.Tests.{both-true}
+use Rattle.machine.specs.RegionLaws.{used, good-at}
 use Rattle.v850.specs.Block.{BYTES, mapIn}
 use Rattle.v850.specs.Entry.{MEMORY, wordsIn, Reset, reset, handed, view}
 use Rattle.v850.specs.Handed.{viewFrom, onBy}
@@ -21,8 +22,8 @@ region-fits map n k good h = go (eqb (size map k) 0) refl (good-at map n good k 
     go : (t : Bool) → eqb (size map k) 0 ≡ t → goodRegion map n k ≡ true → offset map k + size map k ≤ n
     go true e g =
         let u : unused map k ≡ true = rw e at g in
-        let v = and-true (eqb (base map k) 0) _ u in
-        let o = eqb-true (offset map k) 0 (and-true (eqb (offset map k) 0) _ (v .1) .0) in
+        let v = both-true (eqb (base map k) 0) _ u in
+        let o = eqb-true (offset map k) 0 (both-true (eqb (offset map k) 0) _ (v .1) .0) in
         omega (arith, eqb-true (size map k) 0 e)
     go false e g = used map n k g (omega (arith, eqb-false (size map k) 0 e)) .places
 

@@ -1,7 +1,7 @@
 pub mod Block
 pub mod PackLaws
 pub mod PartLaws
-pub mod Places
+pub mod PlaceLaws
 pub mod BlockLaws
 pub mod Entry
 pub mod Handed

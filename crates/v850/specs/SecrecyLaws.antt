@@ -21,7 +21,7 @@ use Rattle.machine.specs.Alike.{bitCells, Alike}
 use Rattle.machine.specs.AlikeLaws.{register}
 use Rattle.v850.specs.Block.{WORDS, MAP-WORDS, atPSW, atEIPC, atEIPSW, atFEPC, atFEPSW, atWaits, atRegMarks, atSysMarks, atMap, byte, bitsFrom, packBits, mapIn, coreIn, numsIn, marksIn, cellsIn, wordsOf, goodState}
 use Rattle.v850.specs.PackLaws.{Below, bits-length}
-use Rattle.v850.specs.Places.{before, after, everywhere}
+use Rattle.v850.specs.PlaceLaws.{before, after, everywhere}
 use Rattle.v850.specs.BlockLaws.{map-long, sysMarks, passed, formed-words, formed-good-state, good-state-formed, together-apart}
 use Rattle.v850.specs.AlikeStarts.{AlikeWords}
 

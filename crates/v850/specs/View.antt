@@ -8,8 +8,8 @@ use native.Mathlib.Omega.{arith}
 use lib.Dec.{eqb, leb}
 use lib.ListN.{length, length-take, length-drop}
 use borrow.Author.Tests.{leb-true, leb-false, lt-leb, eqb-false, ne-eqb}
+use Rattle.word.specs.Tests.{both-true}
 use Rattle.machine.specs.Regions.{goodMap, size}
-use Rattle.machine.specs.RegionLaws.{and-true}
 use Rattle.v850.specs.Block.{BYTES, mapIn}
 use Rattle.v850.specs.Entry.{MEMORY, wordsIn, handed, view}
 use Rattle.v850.specs.EntryLaws.{region-fits, handed-by, view-none}
@@ -36,9 +36,9 @@ module _ (block memory : List ℕ) (k : ℕ) where
   pub view-size : handed block memory k ≡ true → length (view block memory k) ≡ size (mapIn (wordsIn block)) k
   unfolding view
   view-size h =
-      let t = and-true (leb k 3) _ h in
-      let u = and-true (eqb (length block) BYTES) _ (t .1) in
-      let good = and-true (leb (length memory) MEMORY) _ (u .1) .1 in
+      let t = both-true (leb k 3) _ h in
+      let u = both-true (eqb (length block) BYTES) _ (t .1) in
+      let good = both-true (leb (length memory) MEMORY) _ (u .1) .1 in
       let fits = region-fits (mapIn (wordsIn block)) (length memory) k good (omega (arith, leb-true k 3 (t .0))) in
       rw h (simp (length-take, length-drop) (omega arith))
 

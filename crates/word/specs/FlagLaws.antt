@@ -1,6 +1,6 @@
 -- Laws of the five flags as the low bits of PSW, and of the conditions over them.
 use mathlib.Core.Path.{_≡_, refl, sym, ap, ap₂, _∙_}
-use mathlib.Core.Bool.{Bool, true, false, _||_, not, Bool·beq, true≢false}
+use mathlib.Core.Bool.{Bool, true, false, _||_, not, Bool·beq}
 use mathlib.Core.List.{List, map}
 use Prim.Native.Nat.{ℕ, _+_, _/_, _%_, _^_, _≤_, _<_}
 use lib.Dec.{T, eqb, ltb, eqb→eq, ltb→lt}
@@ -8,7 +8,7 @@ use lib.Pow.{field, mod-mod-pow}
 use lib.ListN.{getD, List·getD-map, List·getD-eq-default}
 use Rattle.word.specs.Shifts.{bit}
 use Rattle.word.specs.Flags.{Flags, unpacked, packed, xor, conditions, holds, reads}
-use Rattle.word.specs.Tests.{beq→eq, below-at, eitherWay, eitherWay-at}
+use Rattle.word.specs.Tests.{both-false, beq→eq, below-at, eitherWay, eitherWay-at}
 
 -- a test at all 32 settings of the flags
 abbrev every : (Flags → Bool) → Bool
@@ -75,21 +75,13 @@ record Read : Type 0 where
   other : Bool
   same : look ≡ false → one ≡ other
 
-or-false-left : (a b : Bool) → (a || b) ≡ false → a ≡ false
-or-false-left true b e = e
-or-false-left false b e = refl
-
-or-false-right : (a b : Bool) → (a || b) ≡ false → b ≡ false
-or-false-right true b e = absurd (true≢false e)
-or-false-right false b e = e
-
 abbrev join : (Bool → Bool → Bool) → Read → Read → Read
 join op a b =
     record {
       look = a .look || b .look;
       one = op (a .one) (b .one);
       other = op (a .other) (b .other);
-      same = λ e. ap₂ op (a .same (or-false-left (a .look) (b .look) e)) (b .same (or-false-right (a .look) (b .look) e));
+      same = λ e. let n = both-false (a .look) (b .look) e in ap₂ op (a .same (n .0)) (b .same (n .1));
     }
 
 abbrev flip : Read → Read
