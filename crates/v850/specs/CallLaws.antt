@@ -2,9 +2,10 @@
 use mathlib.Core.Path.{_≡_, sym, ap, _∙_, subst}
 use mathlib.Core.Bool.{true, false}
 use mathlib.Core.List.{List}
-use Prim.Native.Nat.{ℕ, _≤_, _^_}
+use mathlib.Core.Logic.{_≢_}
+use Prim.Native.Nat.{ℕ, _≤_, _<_, _^_}
 use lib.ListN.{length, replicate}
-use borrow.Author.Tests.{eq-eqb, le-leb}
+use borrow.Author.Tests.{eq-eqb, ne-eqb, le-leb, lt-leb}
 use Rattle.machine.specs.declared.Open.{Open}
 use Rattle.machine.specs.declared.Ran.{Ran}
 use Rattle.machine.specs.declared.Answer.the-variants.{Size, Map, State}
@@ -30,6 +31,24 @@ module _ (block memory marks report : List ℕ) where
   unfolding called
   refused-size budget e = rw e
 
+  -- the sizes one by one
+  pub wrong-block : (budget : ℕ) → length block ≢ BYTES → left Size block memory marks report ≡ called block memory marks report budget
+  wrong-block budget b = refused-size budget (rw (ne-eqb (length block) BYTES b))
+
+  pub wrong-report : (budget : ℕ) → length block ≡ BYTES → length report ≢ REPORT
+      → left Size block memory marks report ≡ called block memory marks report budget
+  wrong-report budget b r = refused-size budget (rw (eq-eqb (length block) BYTES b, ne-eqb (length report) REPORT r))
+
+  pub wrong-memory : (budget : ℕ) → length block ≡ BYTES → length report ≡ REPORT → MEMORY < length memory
+      → left Size block memory marks report ≡ called block memory marks report budget
+  wrong-memory budget b r m = refused-size budget (rw (eq-eqb (length block) BYTES b, eq-eqb (length report) REPORT r, lt-leb (length memory) MEMORY m))
+
+  pub wrong-marks : (budget : ℕ) → length block ≡ BYTES → length report ≡ REPORT → length memory ≤ MEMORY → length marks ≢ length memory
+      → left Size block memory marks report ≡ called block memory marks report budget
+  wrong-marks budget b r m k =
+      refused-size budget
+      (rw (eq-eqb (length block) BYTES b, eq-eqb (length report) REPORT r, le-leb (length memory) MEMORY m, ne-eqb (length marks) (length memory) k))
+
   pub refused-map : (budget : ℕ) {zeros : List ℕ} → goodSizes block memory marks report ≡ true
       → goodMap (mapIn (wordsIn block)) (length memory) ≡ false → zeros ≡ replicate REPORT 0
       → left Map block memory marks zeros ≡ called block memory marks report budget
@@ -42,14 +61,22 @@ module _ (block memory marks report : List ℕ) where
   unfolding called
   refused-state budget s g e z = rw (s, g, e, z)
 
--- a call that passes: the parts of its block, its run, and the block put together
-module _ {block memory marks report : List ℕ} (p : Passes block memory marks report) {ws map nums tags : List ℕ} {core : Open}
-    (we : ws ≡ wordsIn block) (me : map ≡ mapIn ws) (ce : core ≡ coreIn ws) (ne : nums ≡ numsIn ws) (te : tags ≡ marksIn ws) where
+-- a call that passes, and the parts of its block
+pub record Starts (block memory marks report ws map nums tags : List ℕ) (core : Open) : Type 0 where
+  pub passes : Passes block memory marks report
+  pub words : ws ≡ wordsIn block
+  pub map-in : map ≡ mapIn ws
+  pub core-in : core ≡ coreIn ws
+  pub nums-in : nums ≡ numsIn ws
+  pub marks-in : tags ≡ marksIn ws
+
+-- its run, and the block put together
+module _ {block memory marks report ws map nums tags : List ℕ} {core : Open} (s : Starts block memory marks report ws map nums tags core) where
   pub starts-ready : Ready map memory marks
-  starts-ready = record { good = rw (me, we) (p .map); same = marks-long p; small = memory-small p }
+  starts-ready = record { good = rw (s .map-in, s .words) (s .passes .map); same = marks-long (s .passes); small = memory-small (s .passes) }
 
   pub starts-formed : Below (2 ^ 8) block → WellFormed core (both nums tags)
-  starts-formed h = rw (ce, ne, te, we) (formed (good-words p h))
+  starts-formed h = rw (s .core-in, s .nums-in, s .marks-in, s .words) (formed (good-words (s .passes) h))
 
   module _ (budget : ℕ) {ran : Ran} {nums′ tags′ memory′ marks′ : List ℕ}
       (e : _≡_ {A = Ended} (record { ran = ran; cells = both nums′ tags′; mem = both memory′ marks′ }) (run budget 0 map core (both nums tags) (both memory marks))) where
@@ -61,4 +88,5 @@ module _ {block memory marks report : List ℕ} (p : Passes block memory marks r
     pub ends-called : {last block′ report′ : List ℕ} {answer : ℕ} → last ≡ wordsOf (ran .core) (both nums′ tags′) map → block′ ≡ bytesOf last
         → report′ ≡ reportOf (ran .steps) (ran .place) → answer ≡ number (ran .answer)
         → _≡_ {A = Left} (record { answer = answer; block = block′; memory = memory′; marks = marks′; report = report′ }) (called block memory marks report budget)
-    ends-called le be re ae = rw (ae, be, le, re) (ap (finished map) e ∙ rw (me, ce, ne, te, we) (sym (called-passes p budget)))
+    ends-called le be re ae =
+        rw (ae, be, le, re) (ap (finished map) e ∙ rw (s .map-in, s .core-in, s .nums-in, s .marks-in, s .words) (sym (called-passes (s .passes) budget)))
