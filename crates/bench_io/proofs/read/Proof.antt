@@ -48,13 +48,27 @@ returns-2 : tie.Need-returns-2 Inv-loop μ-loop
 returns-2 c = search needs
 
 add-at : tie.Need-add-at Inv-loop μ-loop
-add-at c = omega (arith, within (c .before .before .before .before .before .before .more .ensures) (c .before .before .got .given .1), length-take (length (c .before .before .before .before .before .before .before .before .before .loop .room) - c .before .before .before .before .before .before .before .before .before .loop .at) (drop (c .before .before .before .before .before .before .before .before .before .loop .at) (c .before .before .before .before .before .before .before .before .before .loop .room)), length-drop (c .before .before .before .before .before .before .before .before .before .loop .at) (c .before .before .before .before .before .before .before .before .before .loop .room))
+add-at c =
+    let loop′ = c .before .before .before .before .before .before .before .before .before .loop in
+    omega (
+      arith,
+      within (c .before .before .before .before .before .before .more .ensures) (c .before .before .got .given .1),
+      length-take (length (loop′ .room) - loop′ .at) (drop (loop′ .at) (loop′ .room)),
+      length-drop (loop′ .at) (loop′ .room),
+    )
 
 loop-less : tie.Need-loop-less Inv-loop μ-loop
 loop-less c = search needs
 
 loop-again : tie.Need-loop-again Inv-loop μ-loop
-loop-again c = omega (arith, within (c .before .before .before .before .before .before .more .ensures) (c .before .before .got .given .1), length-take (length (c .before .before .before .before .before .before .before .before .before .loop .room) - c .before .before .before .before .before .before .before .before .before .loop .at) (drop (c .before .before .before .before .before .before .before .before .before .loop .at) (c .before .before .before .before .before .before .before .before .before .loop .room)), length-drop (c .before .before .before .before .before .before .before .before .before .loop .at) (c .before .before .before .before .before .before .before .before .before .loop .room))
+loop-again c =
+    let loop′ = c .before .before .before .before .before .before .before .before .before .loop in
+    omega (
+      arith,
+      within (c .before .before .before .before .before .before .more .ensures) (c .before .before .got .given .1),
+      length-take (length (loop′ .room) - loop′ .at) (drop (loop′ .at) (loop′ .room)),
+      length-drop (loop′ .at) (loop′ .room),
+    )
 
 same-length-3 : tie.Need-same-length-3 Inv-loop μ-loop
 same-length-3 c = search needs

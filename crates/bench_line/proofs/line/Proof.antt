@@ -44,7 +44,11 @@ put-line-requires : tie.Need-put-line-requires
 put-line-requires c κs = search needs
 
 returns : tie.Need-returns
-returns c = line-wrote (c .before .before .before .before .before .before .before .before .before .before .before .before .before .before .before .before .before .args .input .now) (c .before .before .before .before .before .before .before .before .before .before .before .before .run .ensures) (c .before .before .before .before .before .before .before .before .word-at .ensures) (c .before .before .before .before .before .before .word-at2 .ensures) (c .before .before .before .before .word-at3 .ensures) (c .before .before .word-at4 .ensures) (c .put-line .ensures)
+returns c =
+    line-wrote (c .before .before .before .before .before .before .before .before .before .before .before .before .before .before .before .before .before .args .input .now)
+    (c .before .before .before .before .before .before .before .before .before .before .before .before .run .ensures)
+    (c .before .before .before .before .before .before .before .before .word-at .ensures) (c .before .before .before .before .before .before .word-at2 .ensures)
+    (c .before .before .before .before .word-at3 .ensures) (c .before .before .word-at4 .ensures) (c .put-line .ensures)
 
 pub line-spec : {M : Type 1} → statement M
 line-spec =

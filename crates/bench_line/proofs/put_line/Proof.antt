@@ -16,34 +16,49 @@ slice-aggregate-named-decimal-2 : tie.Need-slice-aggregate-named-decimal-2
 slice-aggregate-named-decimal-2 c = search needs
 
 named-decimal-requires-2 : tie.Need-named-decimal-requires-2
-named-decimal-requires-2 c κs = omega (arith, decimal-length DIGITS (c .before .before .before .before .before .args .answer), decimal-length DIGITS (c .before .before .before .before .before .args .steps), hex-length 6 (c .before .before .before .before .before .args .pc), hex-length 2 (c .before .before .before .before .before .args .psw), hex-length 6 (c .before .before .before .before .before .args .place))
+named-decimal-requires-2 c κs =
+    let args′ = c .before .before .before .before .before .args in
+    omega (arith, decimal-length DIGITS (args′ .answer), decimal-length DIGITS (args′ .steps), hex-length 6 (args′ .pc), hex-length 2 (args′ .psw), hex-length 6 (args′ .place))
 
 slice-aggregate-named-hex : tie.Need-slice-aggregate-named-hex
 slice-aggregate-named-hex c = search needs
 
 named-hex-requires : tie.Need-named-hex-requires
-named-hex-requires c κs = omega (arith, decimal-length DIGITS (c .before .before .before .before .before .before .before .before .args .answer), decimal-length DIGITS (c .before .before .before .before .before .before .before .before .args .steps), hex-length 6 (c .before .before .before .before .before .before .before .before .args .pc), hex-length 2 (c .before .before .before .before .before .before .before .before .args .psw), hex-length 6 (c .before .before .before .before .before .before .before .before .args .place))
+named-hex-requires c κs =
+    let args′ = c .before .before .before .before .before .before .before .before .args in
+    omega (arith, decimal-length DIGITS (args′ .answer), decimal-length DIGITS (args′ .steps), hex-length 6 (args′ .pc), hex-length 2 (args′ .psw), hex-length 6 (args′ .place))
 
 slice-aggregate-named-hex-2 : tie.Need-slice-aggregate-named-hex-2
 slice-aggregate-named-hex-2 c = search needs
 
 named-hex-requires-2 : tie.Need-named-hex-requires-2
-named-hex-requires-2 c κs = omega (arith, decimal-length DIGITS (c .before .before .before .before .before .before .before .before .before .before .before .args .answer), decimal-length DIGITS (c .before .before .before .before .before .before .before .before .before .before .before .args .steps), hex-length 6 (c .before .before .before .before .before .before .before .before .before .before .before .args .pc), hex-length 2 (c .before .before .before .before .before .before .before .before .before .before .before .args .psw), hex-length 6 (c .before .before .before .before .before .before .before .before .before .before .before .args .place))
+named-hex-requires-2 c κs =
+    let args′ = c .before .before .before .before .before .before .before .before .before .before .before .args in
+    omega (arith, decimal-length DIGITS (args′ .answer), decimal-length DIGITS (args′ .steps), hex-length 6 (args′ .pc), hex-length 2 (args′ .psw), hex-length 6 (args′ .place))
 
 slice-aggregate-named-hex-3 : tie.Need-slice-aggregate-named-hex-3
 slice-aggregate-named-hex-3 c = search needs
 
 named-hex-requires-3 : tie.Need-named-hex-requires-3
-named-hex-requires-3 c κs = omega (arith, decimal-length DIGITS (c .before .before .before .before .before .before .before .before .before .before .before .before .before .before .args .answer), decimal-length DIGITS (c .before .before .before .before .before .before .before .before .before .before .before .before .before .before .args .steps), hex-length 6 (c .before .before .before .before .before .before .before .before .before .before .before .before .before .before .args .pc), hex-length 2 (c .before .before .before .before .before .before .before .before .before .before .before .before .before .before .args .psw), hex-length 6 (c .before .before .before .before .before .before .before .before .before .before .before .before .before .before .args .place))
+named-hex-requires-3 c κs =
+    let args′ = c .before .before .before .before .before .before .before .before .before .before .before .before .before .before .args in
+    omega (arith, decimal-length DIGITS (args′ .answer), decimal-length DIGITS (args′ .steps), hex-length 6 (args′ .pc), hex-length 2 (args′ .psw), hex-length 6 (args′ .place))
 
 slice-aggregate-put : tie.Need-slice-aggregate-put
 slice-aggregate-put c = search needs
 
 put-requires : tie.Need-put-requires
-put-requires c κs = omega (arith, decimal-length DIGITS (c .before .before .before .before .before .before .before .before .before .before .before .before .before .before .before .before .before .args .answer), decimal-length DIGITS (c .before .before .before .before .before .before .before .before .before .before .before .before .before .before .before .before .before .args .steps), hex-length 6 (c .before .before .before .before .before .before .before .before .before .before .before .before .before .before .before .before .before .args .pc), hex-length 2 (c .before .before .before .before .before .before .before .before .before .before .before .before .before .before .before .before .before .args .psw), hex-length 6 (c .before .before .before .before .before .before .before .before .before .before .before .before .before .before .before .before .before .args .place))
+put-requires c κs =
+    let args′ = c .before .before .before .before .before .before .before .before .before .before .before .before .before .before .before .before .before .args in
+    omega (arith, decimal-length DIGITS (args′ .answer), decimal-length DIGITS (args′ .steps), hex-length 6 (args′ .pc), hex-length 2 (args′ .psw), hex-length 6 (args′ .place))
 
 returns : tie.Need-returns
-returns c = wrote-then (c .before .before .before .before .before .before .before .before .before .before .before .before .before .before .before .named-decimal .ensures) (wrote-then (c .before .before .before .before .before .before .before .before .before .before .before .before .named-decimal2 .ensures) (wrote-then (c .before .before .before .before .before .before .before .before .before .named-hex .ensures) (wrote-then (c .before .before .before .before .before .before .named-hex2 .ensures) (wrote-then (c .before .before .before .named-hex3 .ensures) (c .put .ensures)))))
+returns c =
+    wrote-then (c .before .before .before .before .before .before .before .before .before .before .before .before .before .before .before .named-decimal .ensures)
+    (wrote-then (c .before .before .before .before .before .before .before .before .before .before .before .before .named-decimal2 .ensures)
+    (wrote-then (c .before .before .before .before .before .before .before .before .before .named-hex .ensures)
+    (wrote-then (c .before .before .before .before .before .before .named-hex2 .ensures)
+    (wrote-then (c .before .before .before .named-hex3 .ensures) (c .put .ensures)))))
 
 pub put-line-spec : {M : Type 1} → statement M
 put-line-spec =

@@ -5,7 +5,9 @@ use Rattle.bench_line.proofs.image.run.Statement.{statement}
 use Rattle.bench_line.proofs.image.run.Tie as tie
 
 returns : tie.Need-returns
-returns c = not-run (c .before .before .before .before .args .input .now) (c .before .before .before .before .pre .0) (c .before .before .before .before .pre .1) (c .if1 .taken)
+returns c =
+    let start′ = c .before .before .before .before in
+    not-run (start′ .args .input .now) (start′ .pre .0) (start′ .pre .1) (c .if1 .taken)
 
 padded-requires : tie.Need-padded-requires
 padded-requires c κs = search needs
@@ -26,7 +28,10 @@ same-length-2 : tie.Need-same-length-2
 same-length-2 c = search needs
 
 returns-2 : tie.Need-returns-2
-returns-2 c = run-left (c .before .before .before .before .before .before .before .before .before .before .before .before .before .before .before .before .args .input .now) (c .before .before .before .before .before .before .before .before .before .before .before .before .before .before .before .before .pre .0) (c .before .before .before .before .before .before .before .before .before .before .before .before .before .before .before .before .pre .1) _ (c .before .before .before .before .before .before .before .before .before .before .before .before .if1 .left) (c .before .before .before .before .before .before .before .before .before .before .before .padded .ensures) (c .before .before .before .before .before .before .v850-run .ensures)
+returns-2 c =
+    let start′ = c .before .before .before .before .before .before .before .before .before .before .before .before .before .before .before .before in
+    run-left (start′ .args .input .now) (start′ .pre .0) (start′ .pre .1) _ (c .before .before .before .before .before .before .before .before .before .before .before .before .if1 .left)
+    (c .before .before .before .before .before .before .before .before .before .before .before .padded .ensures) (c .before .before .before .before .before .before .v850-run .ensures)
 
 pub run-spec : {M : Type 1} → statement M
 run-spec =

@@ -53,7 +53,9 @@ put-decimal-returns-2 : (t : ℕ) → put-decimal-lts.Need-returns-2 (
   put-decimal-below t,
   put-decimal.Post,
 ) (put-decimal-at t) put-decimal.Post
-put-decimal-returns-2 t c = decimal-one (c .before .before .before .before .before .before .before .args .k) (c .before .before .before .before .before .before .before .args .n) (omega arith) (omega arith) (c .before .before .put-digit .ensures)
+put-decimal-returns-2 t c =
+    let args′ = c .before .before .before .before .before .before .before .args in
+    decimal-one (args′ .k) (args′ .n) (omega arith) (omega arith) (c .before .before .put-digit .ensures)
 
 put-decimal-sub-put-decimal : (t : ℕ) → put-decimal-lts.Need-sub-put-decimal (
   put-digit-reads.Asked,
@@ -77,7 +79,9 @@ put-decimal-put-digit-requires-2 : (t : ℕ) → put-decimal-lts.Need-put-digit-
   put-decimal-below t,
   put-decimal.Post,
 ) (put-decimal-at t) put-decimal.Post
-put-decimal-put-digit-requires-2 t c κs = omega (arith, decimal-length (c .before .before .before .before .before .before .before .before .args .k - 1) (c .before .before .before .before .before .before .before .before .args .n / 10))
+put-decimal-put-digit-requires-2 t c κs =
+    let args′ = c .before .before .before .before .before .before .before .before .args in
+    omega (arith, decimal-length (args′ .k - 1) (args′ .n / 10))
 
 put-decimal-same-length-2 : (t : ℕ) → put-decimal-lts.Need-same-length-2 (
   put-digit-reads.Asked,
@@ -93,7 +97,10 @@ put-decimal-returns-3 : (t : ℕ) → put-decimal-lts.Need-returns-3 (
   put-decimal-below t,
   put-decimal.Post,
 ) (put-decimal-at t) put-decimal.Post
-put-decimal-returns-3 t c = decimal-more (c .before .before .before .before .before .before .before .before .before .before .before .args .k) (c .before .before .before .before .before .before .before .before .before .before .before .args .n) (omega arith) (omega arith) (c .before .before .before .before .before .before .put-decimal .ensures) (c .before .before .put-digit2 .ensures)
+put-decimal-returns-3 t c =
+    let args′ = c .before .before .before .before .before .before .before .before .before .before .before .args in
+    decimal-more (args′ .k) (args′ .n) (omega arith) (omega arith) (c .before .before .before .before .before .before .put-decimal .ensures)
+    (c .before .before .put-digit2 .ensures)
 
 pub +put-decimal-spec : {M : Type 1} → statement M
 +put-decimal-spec = close μ-put-decimal λ t. put-decimal-lts.spec (

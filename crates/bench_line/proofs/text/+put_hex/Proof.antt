@@ -51,7 +51,9 @@ put-hex-put-digit-requires : (t : ℕ) → put-hex-lts.Need-put-digit-requires (
   put-digit-reads.Asked,
   put-digit-reads.Learnt,
 ) (put-hex-at t) put-hex.Post
-put-hex-put-digit-requires t c κs = omega (arith, hex-length (c .before .before .before .before .before .before .before .args .k - 1) (c .before .before .before .before .before .before .before .args .n / 16))
+put-hex-put-digit-requires t c κs =
+    let args′ = c .before .before .before .before .before .before .before .args in
+    omega (arith, hex-length (args′ .k - 1) (args′ .n / 16))
 
 put-hex-same-length : (t : ℕ) → put-hex-lts.Need-same-length (
   put-hex-below t,
@@ -67,7 +69,9 @@ put-hex-returns-2 : (t : ℕ) → put-hex-lts.Need-returns-2 (
   put-digit-reads.Asked,
   put-digit-reads.Learnt,
 ) (put-hex-at t) put-hex.Post
-put-hex-returns-2 t c = hex-more (c .before .before .before .before .before .before .before .before .before .before .args .k) (c .before .before .before .before .before .before .before .before .before .before .args .n) (omega arith) (c .before .before .before .before .before .before .put-hex .ensures) (c .before .before .put-digit .ensures)
+put-hex-returns-2 t c =
+    let args′ = c .before .before .before .before .before .before .before .before .before .before .args in
+    hex-more (args′ .k) (args′ .n) (omega arith) (c .before .before .before .before .before .before .put-hex .ensures) (c .before .before .put-digit .ensures)
 
 pub +put-hex-spec : {M : Type 1} → statement M
 +put-hex-spec = close μ-put-hex λ t. put-hex-lts.spec (

@@ -57,7 +57,15 @@ element-copy-out-result-7 c = search needs
 
 returns : tie.Need-returns
 unfolding goodState
-returns c = simp (c .before .before .before .before .before .before .before .before .before .before .before .before .byte .ensures, c .before .before .before .before .before .before .before .before .before .before .before .byte2 .ensures, c .before .before .before .before .before .before .before .before .before .before .byte3 .ensures, c .before .before .before .before .before .before .before .before .before .byte4 .ensures, c .before .before .before .before .before .before .before .before .byte5 .ensures, c .before .before .before .before .before .before .before .byte6 .ensures)
+returns c =
+    simp (
+      c .before .before .before .before .before .before .before .before .before .before .before .before .byte .ensures,
+      c .before .before .before .before .before .before .before .before .before .before .before .byte2 .ensures,
+      c .before .before .before .before .before .before .before .before .before .before .byte3 .ensures,
+      c .before .before .before .before .before .before .before .before .before .byte4 .ensures,
+      c .before .before .before .before .before .before .before .before .byte5 .ensures,
+      c .before .before .before .before .before .before .before .byte6 .ensures,
+    )
 
 pub good-state-spec : {M : Type 1} → statement M
 good-state-spec =

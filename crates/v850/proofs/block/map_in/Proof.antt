@@ -41,10 +41,18 @@ loop-less : tie.Need-loop-less Inv-loop μ-loop
 loop-less c = search needs
 
 loop-again : tie.Need-loop-again Inv-loop μ-loop
-loop-again c = filled-next (λ n. take n (drop atMap (c .before .before .before .args .ws .now))) MAP-WORDS MAP-WORDS (c .before .before .loop .i) _ _ (c .before .before .loop .map) (omega arith) (omega arith) (drop-more (c .before .before .before .args .ws .now) atMap (c .before .before .loop .i) (omega arith)) refl (c .before .before .loop .inv)
+loop-again c =
+    let args′ = c .before .before .before .args in
+    let loop′ = c .before .before .loop in
+    filled-next (λ n. take n (drop atMap (args′ .ws .now))) MAP-WORDS MAP-WORDS (loop′ .i) _ _ (loop′ .map) (omega arith) (omega arith)
+    (drop-more (args′ .ws .now) atMap (loop′ .i) (omega arith)) refl (loop′ .inv)
 
 returns : tie.Need-returns Inv-loop μ-loop
-returns c = filled-all (λ n. take n (drop atMap (c .before .before .args .ws .now))) MAP-WORDS (c .before .loop .i) (c .before .loop .map) (c .loop-test .left) (c .before .loop .inv) ∙ take-all MAP-WORDS (drop atMap (c .before .before .args .ws .now)) (omega (arith, length-drop atMap (c .before .before .args .ws .now)))
+returns c =
+    let args′ = c .before .before .args in
+    let loop′ = c .before .loop in
+    filled-all (λ n. take n (drop atMap (args′ .ws .now))) MAP-WORDS (loop′ .i) (loop′ .map) (c .loop-test .left) (loop′ .inv)
+    ∙ take-all MAP-WORDS (drop atMap (args′ .ws .now)) (omega (arith, length-drop atMap (args′ .ws .now)))
 
 pub map-in-spec : {M : Type 1} → statement M
 map-in-spec =

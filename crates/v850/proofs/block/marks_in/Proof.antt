@@ -45,7 +45,11 @@ loop-less : tie.Need-loop-less Inv-loop μ-loop
 loop-less c = search needs
 
 loop-again : tie.Need-loop-again Inv-loop μ-loop
-loop-again c = filled-next (bitsFrom (getD (c .before .before .before .before .args .ws .now) atRegMarks 0) 0) CELLS REGS (c .before .loop .i) _ _ (c .before .loop .tags) (omega arith) (omega arith) (bits-more (getD (c .before .before .before .before .args .ws .now) atRegMarks 0) 0 (c .before .loop .i)) (ap (λ (k : ℕ). getD (c .before .before .before .before .args .ws .now) atRegMarks 0 / 2 ^ k % 2) (omega arith)) (c .before .loop .inv)
+loop-again c =
+    let args′ = c .before .before .before .before .args in
+    let loop′ = c .before .loop in
+    filled-next (bitsFrom (getD (args′ .ws .now) atRegMarks 0) 0) CELLS REGS (loop′ .i) _ _ (loop′ .tags) (omega arith) (omega arith)
+    (bits-more (getD (args′ .ws .now) atRegMarks 0) 0 (loop′ .i)) (ap (λ (k : ℕ). getD (args′ .ws .now) atRegMarks 0 / 2 ^ k % 2) (omega arith)) (loop′ .inv)
 
 byte-requires : tie.Need-byte-requires Inv-loop μ-loop
 byte-requires c κs = search needs
@@ -96,7 +100,18 @@ array-write-tags-7 : tie.Need-array-write-tags-7 Inv-loop μ-loop
 array-write-tags-7 c = search needs
 
 returns : tie.Need-returns Inv-loop μ-loop
-returns c = rw (c .before .before .before .before .byte .ensures, c .before .before .before .byte2 .ensures, c .before .before .byte3 .ensures, c .before .byte4 .ensures, c .byte5 .ensures) (six-stored (c .before .before .before .before .before .before .loop .tags) _ _ _ _ _ _ _ (c .before .before .before .before .before .before .loop .inv .long) (filled-part (bitsFrom (getD (c .before .before .before .before .before .before .before .before .before .args .ws .now) atRegMarks 0) 0) CELLS REGS (c .before .before .before .before .before .before .loop .i) (c .before .before .before .before .before .before .loop .tags) (c .before .before .before .before .before .loop-test .left) (c .before .before .before .before .before .before .loop .inv)))
+returns c =
+    let args′ = c .before .before .before .before .before .before .before .before .before .args in
+    let loop′ = c .before .before .before .before .before .before .loop in
+    rw (
+      c .before .before .before .before .byte .ensures,
+      c .before .before .before .byte2 .ensures,
+      c .before .before .byte3 .ensures,
+      c .before .byte4 .ensures,
+      c .byte5 .ensures,
+    )
+    (six-stored (loop′ .tags) _ _ _ _ _ _ _ (loop′ .inv .long)
+    (filled-part (bitsFrom (getD (args′ .ws .now) atRegMarks 0) 0) CELLS REGS (loop′ .i) (loop′ .tags) (c .before .before .before .before .before .loop-test .left) (loop′ .inv)))
 
 pub marks-in-spec : {M : Type 1} → statement M
 marks-in-spec =

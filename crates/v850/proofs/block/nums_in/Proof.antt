@@ -37,7 +37,11 @@ loop-less : tie.Need-loop-less Inv-loop μ-loop
 loop-less c = search needs
 
 loop-again : tie.Need-loop-again Inv-loop μ-loop
-loop-again c = filled-next (λ n. take n (c .before .before .before .args .ws .now)) CELLS REGS (c .before .before .loop .i) _ _ (c .before .before .loop .cells) (omega arith) (omega arith) (take-more (c .before .before .before .args .ws .now) (c .before .before .loop .i) (omega arith)) refl (c .before .before .loop .inv)
+loop-again c =
+    let args′ = c .before .before .before .args in
+    let loop′ = c .before .before .loop in
+    filled-next (λ n. take n (args′ .ws .now)) CELLS REGS (loop′ .i) _ _ (loop′ .cells) (omega arith) (omega arith) (take-more (args′ .ws .now) (loop′ .i) (omega arith)) refl
+    (loop′ .inv)
 
 element-copy-out-cells-2 : tie.Need-element-copy-out-cells-2 Inv-loop μ-loop
 element-copy-out-cells-2 c = search needs
@@ -73,7 +77,11 @@ array-write-cells-7 : tie.Need-array-write-cells-7 Inv-loop μ-loop
 array-write-cells-7 c = search needs
 
 returns : tie.Need-returns Inv-loop μ-loop
-returns c = six-stored (c .before .before .before .before .before .before .loop .cells) _ _ _ _ _ _ _ (c .before .before .before .before .before .before .loop .inv .long) (filled-part (λ n. take n (c .before .before .before .before .before .before .before .args .ws .now)) CELLS REGS (c .before .before .before .before .before .before .loop .i) (c .before .before .before .before .before .before .loop .cells) (c .before .before .before .before .before .loop-test .left) (c .before .before .before .before .before .before .loop .inv))
+returns c =
+    let args′ = c .before .before .before .before .before .before .before .args in
+    let loop′ = c .before .before .before .before .before .before .loop in
+    six-stored (loop′ .cells) _ _ _ _ _ _ _ (loop′ .inv .long)
+    (filled-part (λ n. take n (args′ .ws .now)) CELLS REGS (loop′ .i) (loop′ .cells) (c .before .before .before .before .before .loop-test .left) (loop′ .inv))
 
 pub nums-in-spec : {M : Type 1} → statement M
 nums-in-spec =

@@ -36,13 +36,19 @@ loop-less : tie.Need-loop-less Inv-loop μ-loop
 loop-less c = search needs
 
 loop-again : tie.Need-loop-again Inv-loop μ-loop
-loop-again c = (omega arith, c .before .before .put-word .kept .0 ∙ c .before .before .before .before .before .before .loop .inv .1, bytes-turn (c .before .before .before .before .before .before .before .before .args .ws .now) (c .before .before .before .before .before .before .before .before .args .block .now) (c .before .before .before .before .before .before .loop .block) _ (c .before .before .before .before .before .before .loop .i) (omega arith) (c .before .before .before .before .before .before .loop .inv .2) (c .before .before .put-word .ensures))
+loop-again c =
+    let args′ = c .before .before .before .before .before .before .before .before .args in
+    let loop′ = c .before .before .before .before .before .before .loop in
+    (omega arith, c .before .before .put-word .kept .0 ∙ loop′ .inv .1, bytes-turn (args′ .ws .now) (args′ .block .now) (loop′ .block) _ (loop′ .i) (omega arith) (loop′ .inv .2) (c .before .before .put-word .ensures))
 
 same-length : tie.Need-same-length Inv-loop μ-loop
 same-length c = omega arith
 
 returns : tie.Need-returns Inv-loop μ-loop
-returns c = bytes-done (c .before .before .before .args .ws .now) (c .before .before .before .args .block .now) (c .before .loop .block) (c .before .loop .i) (omega arith) (omega arith) (c .before .loop .inv .2)
+returns c =
+    let args′ = c .before .before .before .args in
+    let loop′ = c .before .loop in
+    bytes-done (args′ .ws .now) (args′ .block .now) (loop′ .block) (loop′ .i) (omega arith) (omega arith) (loop′ .inv .2)
 
 pub put-words-spec : {M : Type 1} → statement M
 put-words-spec =

@@ -1,6 +1,6 @@
 -- From the last register down: what is gathered is the bits from register i on, and fits 32 bits (`marks-turn`).
 use mathlib.Core.Path.{_≡_, sym, ap}
-use Prim.Native.Nat.{_≤_}
+use Prim.Native.Nat.{ℕ, _+_, _-_, _*_, _^_, _≤_, _<_}
 use native.Mathlib.Omega.{arith}
 use borrow.Author.Needs.{needs}
 use lib.ListN.{take, drop, length-take, drop-of-length-le}
@@ -29,17 +29,26 @@ element-copy-out-wide c = search needs
 wide-requires : tie.Need-wide-requires Inv-loop μ-loop
 wide-requires c κs = search needs
 
+-- a turn, once the mark is read
+turn : (s : tie.After-wide Inv-loop μ-loop) → let loop′ = s .before .before .before .loop in let sum : ℕ = s .wide .result + 2 * loop′ .r in
+    (sum ≡ packBits (drop (loop′ .i - 1) (take REGS (s .before .before .before .before .args .tags .now)))) × (sum < 2 ^ 32)
+turn s =
+    let start′ = s .before .before .before .before in
+    let loop′ = s .before .before .before .loop in
+    marks-turn (start′ .args .tags .now) (loop′ .i) (s .wide .result) (loop′ .r) (start′ .pre) (s .before .before .loop-test .taken)
+    (loop′ .inv .0) (s .wide .ensures .0) (loop′ .inv .1)
+
 mul-r : tie.Need-mul-r Inv-loop μ-loop
-mul-r c = let h = marks-turn (c .before .before .before .before .args .tags .now) (c .before .before .before .loop .i) (c .wide .result) (c .before .before .before .loop .r) (c .before .before .before .before .pre) (c .before .before .loop-test .taken) (c .before .before .before .loop .inv .0) (c .wide .ensures .0) (c .before .before .before .loop .inv .1) .1 in omega arith
+mul-r c = let h = turn c .1 in omega arith
 
 add-r : tie.Need-add-r Inv-loop μ-loop
-add-r c = record { fits = marks-turn (c .before .before .before .before .args .tags .now) (c .before .before .before .loop .i) (c .wide .result) (c .before .before .before .loop .r) (c .before .before .before .before .pre) (c .before .before .loop-test .taken) (c .before .before .before .loop .inv .0) (c .wide .ensures .0) (c .before .before .before .loop .inv .1) .1 }
+add-r c = record { fits = turn c .1 }
 
 loop-less : tie.Need-loop-less Inv-loop μ-loop
 loop-less c = search needs
 
 loop-again : tie.Need-loop-again Inv-loop μ-loop
-loop-again c = (omega arith, marks-turn (c .before .before .before .before .args .tags .now) (c .before .before .before .loop .i) (c .wide .result) (c .before .before .before .loop .r) (c .before .before .before .before .pre) (c .before .before .loop-test .taken) (c .before .before .before .loop .inv .0) (c .wide .ensures .0) (c .before .before .before .loop .inv .1) .0)
+loop-again c = (omega arith, turn c .0)
 
 returns : tie.Need-returns Inv-loop μ-loop
 returns c = let e : c .before .loop .i ≡ 0 = omega arith in rw e at (c .before .loop .inv .1)

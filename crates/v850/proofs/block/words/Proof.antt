@@ -34,10 +34,16 @@ loop-less : tie.Need-loop-less Inv-loop μ-loop
 loop-less c = search needs
 
 loop-again : tie.Need-loop-again Inv-loop μ-loop
-loop-again c = filled-next (wordsFrom (c .before .before .before .before .args .block .now) 0) WORDS WORDS (c .before .before .loop .i) _ (wordAt (c .before .before .before .before .args .block .now) (0 + c .before .before .loop .i)) (c .before .before .loop .ws) (omega arith) (omega arith) (words-more (c .before .before .before .before .args .block .now) 0 (c .before .before .loop .i)) (c .word-at .ensures ∙ ap (wordAt (c .before .before .before .before .args .block .now)) (omega arith)) (c .before .before .loop .inv)
+loop-again c =
+    let args′ = c .before .before .before .before .args in
+    let loop′ = c .before .before .loop in
+    filled-next (wordsFrom (args′ .block .now) 0) WORDS WORDS (loop′ .i) _ (wordAt (args′ .block .now) (0 + loop′ .i)) (loop′ .ws) (omega arith) (omega arith)
+    (words-more (args′ .block .now) 0 (loop′ .i)) (c .word-at .ensures ∙ ap (wordAt (args′ .block .now)) (omega arith)) (loop′ .inv)
 
 returns : tie.Need-returns Inv-loop μ-loop
-returns c = filled-all (wordsFrom (c .before .before .before .args .block .now) 0) WORDS (c .before .loop .i) (c .before .loop .ws) (c .loop-test .left) (c .before .loop .inv)
+returns c =
+    let loop′ = c .before .loop in
+    filled-all (wordsFrom (c .before .before .before .args .block .now) 0) WORDS (loop′ .i) (loop′ .ws) (c .loop-test .left) (loop′ .inv)
 
 pub words-spec : {M : Type 1} → statement M
 words-spec =

@@ -133,8 +133,12 @@ part-memory-start-5 c = search needs
 part-memory-end-5 : tie.Need-part-memory-end-5
 part-memory-end-5 c =
     let s = c .before .before .before .before .before in
-    omega (arith, region-fits (s .before .before .map-in .result) (length (memory (start s))) (number (start s)) (sym (s .good-map .ensures) ∙ not-false _ (c .before .before .before .before .if4 .left)) (omega arith),
-    c .before .before .offset .ensures, c .size .ensures)
+    omega (
+      arith,
+      region-fits (s .before .before .map-in .result) (length (memory (start s))) (number (start s)) (sym (s .good-map .ensures) ∙ not-false _ (c .before .before .before .before .if4 .left)) (omega arith),
+      c .before .before .offset .ensures,
+      c .size .ensures,
+    )
 
 returns-5 : tie.Need-returns-5
 returns-5 c =
