@@ -24,7 +24,10 @@ add-out : tie.Need-add-out Inv-loop μ-loop
 add-out c = omega arith
 
 slice-write-out : tie.Need-slice-write-out Inv-loop μ-loop
-slice-write-out c = omega (arith, ap length (c .before .before .loop .inv .1) ∙ length-sets (c .before .before .before .args .out .now) (c .before .before .before .args .at) (take (c .before .before .loop .i) (c .before .before .before .args .text .now)))
+slice-write-out c =
+    let args′ = c .before .before .before .args in
+    let loop′ = c .before .before .loop in
+    omega (arith, ap length (loop′ .inv .1) ∙ length-sets (args′ .out .now) (args′ .at) (take (loop′ .i) (args′ .text .now)))
 
 add-i : tie.Need-add-i Inv-loop μ-loop
 add-i c = omega arith
@@ -33,7 +36,10 @@ loop-less : tie.Need-loop-less Inv-loop μ-loop
 loop-less c = omega arith
 
 loop-again : tie.Need-loop-again Inv-loop μ-loop
-loop-again c = (omega arith, put-turn (c .before .before .before .args .out .now) _ (c .before .before .before .args .text .now) (c .before .before .before .args .at) (c .before .before .loop .i) (omega arith) (c .before .before .loop .inv .1))
+loop-again c =
+    let args′ = c .before .before .before .args in
+    let loop′ = c .before .before .loop in
+    (omega arith, put-turn (args′ .out .now) _ (args′ .text .now) (args′ .at) (loop′ .i) (omega arith) (loop′ .inv .1))
 
 add-result : tie.Need-add-result Inv-loop μ-loop
 add-result c = omega arith
@@ -42,7 +48,10 @@ same-length : tie.Need-same-length Inv-loop μ-loop
 same-length c = ap length (c .before .loop .inv .1) ∙ length-sets (c .before .before .args .out .now) (c .before .before .args .at) (take (c .before .loop .i) (c .before .before .args .text .now))
 
 returns : tie.Need-returns Inv-loop μ-loop
-returns c = put-done (c .before .before .args .out .now) _ (c .before .before .args .text .now) (c .before .before .args .at) (c .before .loop .i) (c .before .loop .inv .0) (omega arith) (c .before .loop .inv .1)
+returns c =
+    let args′ = c .before .before .args in
+    let loop′ = c .before .loop in
+    put-done (args′ .out .now) _ (args′ .text .now) (args′ .at) (loop′ .i) (loop′ .inv .0) (omega arith) (loop′ .inv .1)
 
 pub put-spec : {M : Type 1} → statement M
 put-spec =

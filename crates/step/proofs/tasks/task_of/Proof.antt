@@ -105,7 +105,9 @@ enum-told-4 c = search needs
 
 returns : tie.Need-returns
 unfolding doTask exec
-returns c = (operands-of (c .before .before .before .before .before .before .pre) (c .before .before .before .before .i .given .1) .1, λ map o m. rw (c .before .before .before .before .i .given .1, c .before .before .of-reg .ensures, c .before .reg .ensures, c .reg2 .ensures))
+returns c =
+    let told = c .before .before .before .before .i .given .1 in
+    (operands-of (c .before .before .before .before .before .before .pre) told .1, λ map o m. rw (told, c .before .before .of-reg .ensures, c .before .reg .ensures, c .reg2 .ensures))
 
 returns-2 : tie.Need-returns-2
 unfolding doTask exec
@@ -113,7 +115,9 @@ returns-2 c = (operands-of (c .before .before .before .pre) (c .before .i2 .give
 
 returns-3 : tie.Need-returns-3
 unfolding doTask exec
-returns-3 c = (operands-of (c .before .before .before .before .before .before .pre) (c .before .before .before .before .i3 .given .1), λ map o m. rw (c .before .before .before .before .i3 .given .1, c .before .before .of-imm5 .ensures, c .before .plain .ensures, c .reg3 .ensures))
+returns-3 c =
+    let told = c .before .before .before .before .i3 .given .1 in
+    (operands-of (c .before .before .before .before .before .before .pre) told, λ map o m. rw (told, c .before .before .of-imm5 .ensures, c .before .plain .ensures, c .reg3 .ensures))
 
 returns-4 : tie.Need-returns-4
 unfolding doTask exec
@@ -129,7 +133,9 @@ returns-6 c = (tt, λ map o m. rw (c .before .i6 .given .1))
 
 returns-7 : tie.Need-returns-7
 unfolding doTask exec
-returns-7 c = (operands-of (c .before .before .before .before .before .before .pre) (c .before .before .before .before .i7 .given .1) .1, λ map o m. rw (c .before .before .before .before .i7 .given .1, c .before .before .of-imm16 .ensures, c .before .plain2 .ensures, c .reg4 .ensures))
+returns-7 c =
+    let told = c .before .before .before .before .i7 .given .1 in
+    (operands-of (c .before .before .before .before .before .before .pre) told .1, λ map o m. rw (told, c .before .before .of-imm16 .ensures, c .before .plain2 .ensures, c .reg4 .ensures))
 
 returns-8 : tie.Need-returns-8
 unfolding doTask exec
@@ -161,7 +167,9 @@ returns-14 c = (operands-of (c .before .before .before .pre) (c .before .i14 .gi
 
 returns-15 : tie.Need-returns-15
 unfolding doTask exec
-returns-15 c = (operands-of (c .before .before .before .before .before .before .pre) (c .before .before .before .before .i15 .given .1) .1, λ map o m. rw (c .before .before .before .before .i15 .given .1, c .before .before .of-shift .ensures, c .before .reg5 .ensures, c .reg6 .ensures))
+returns-15 c =
+    let told = c .before .before .before .before .i15 .given .1 in
+    (operands-of (c .before .before .before .before .before .before .pre) told .1, λ map o m. rw (told, c .before .before .of-shift .ensures, c .before .reg5 .ensures, c .reg6 .ensures))
 
 returns-16 : tie.Need-returns-16
 unfolding doTask doSystem exec

@@ -14,7 +14,10 @@ same-length : tie.Need-same-length
 same-length c = search needs
 
 returns : tie.Need-returns
-returns c = two-words (c .before .before .before .before .before .before .before .before .before .args .report .now) (c .before .before .before .before .before .before .put-word .last .0) _ _ _ (c .before .before .before .before .before .before .before .before .before .pre) (c .before .before .before .before .before .before .put-word .ensures) (c .before .before .put-word2 .ensures)
+returns c =
+    two-words (c .before .before .before .before .before .before .before .before .before .args .report .now)
+    (c .before .before .before .before .before .before .put-word .last .0) _ _ _ (c .before .before .before .before .before .before .before .before .before .pre)
+    (c .before .before .before .before .before .before .put-word .ensures) (c .before .before .put-word2 .ensures)
 
 pub put-report-spec : {M : Type 1} → statement M
 put-report-spec = tie.close (tie.spec put-word-requires put-word-requires-2 same-length returns)

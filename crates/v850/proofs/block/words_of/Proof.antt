@@ -123,7 +123,9 @@ returns c =
     let psw′ = c .before .before .before .before .before .before .before .before .before .before .psw in
     let reg-marks′ = c .before .before .before .reg-marks in
     let sys-marks′ = c .before .before .sys-marks in
-    c .put-map .ensures ∙ eleven-stored (loop′ .ws) _ (args′ .map .now) _ _ _ _ _ _ _ _ _ _ _ _ _ _ (loop′ .inv .long) (filled-part (λ n. take n (args′ .cells .now)) WORDS REGS (loop′ .i) (loop′ .ws) (loop-test′ .left) (loop′ .inv)) (psw′ .ensures (args′ .tags .now)) (reg-marks′ .ensures) (sys-marks′ .ensures)
+    c .put-map .ensures
+    ∙ eleven-stored (loop′ .ws) _ (args′ .map .now) _ _ _ _ _ _ _ _ _ _ _ _ _ _ (loop′ .inv .long)
+    (filled-part (λ n. take n (args′ .cells .now)) WORDS REGS (loop′ .i) (loop′ .ws) (loop-test′ .left) (loop′ .inv)) (psw′ .ensures (args′ .tags .now)) (reg-marks′ .ensures) (sys-marks′ .ensures)
 
 pub words-of-spec : {M : Type 1} → statement M
 words-of-spec =

@@ -82,10 +82,16 @@ module _ (s : tie.After-marks-in) where
   map-at = mapped judged
 
   starts : Starts (block (sized map-at)) (memory (sized map-at)) (marks (sized map-at)) (report (sized map-at))
-      (map-at .before .before .before .before .words .result) (map-at .before .before .map-in .result) (s .before .before .nums-in .result) (s .marks-in .result) (s .before .before .before .before .core-in .result)
+      (map-at .before .before .before .before .words .result) (map-at .before .before .map-in .result)
+      (s .before .before .nums-in .result) (s .marks-in .result) (s .before .before .before .before .core-in .result)
   starts =
       record {
-        passes = record { sizes = sizes (sized map-at); map = map-good judged; state = state-tested judged ∙ not-false _ (s .before .before .before .before .before .before .if6 .left) };
+        passes =
+            record {
+              sizes = sizes (sized map-at);
+              map = map-good judged;
+              state = state-tested judged ∙ not-false _ (s .before .before .before .before .before .before .if6 .left);
+            };
         words = map-at .before .before .before .before .words .ensures;
         map-in = map-at .before .before .map-in .ensures;
         core-in = s .before .before .before .before .core-in .ensures;
@@ -189,7 +195,9 @@ same-length-8 c = search needs
 returns-7 : tie.Need-returns-7
 returns-7 c =
     let r = c .before .before .before .before .before .before .before .before .before .before .before .before .before .before .before .before .before .before in
-    ends-called (starts (r .before .before .before .before .before .before)) _ (r .run .ensures) (c .before .before .before .before .before .before .before .before .before .before .words-of .ensures) (c .before .before .before .before .before .before .before .put-words .ensures) (c .before .before .before .put-report .ensures) (c .number .ensures)
+    ends-called (starts (r .before .before .before .before .before .before)) _ (r .run .ensures)
+    (c .before .before .before .before .before .before .before .before .before .before .words-of .ensures) (c .before .before .before .before .before .before .before .put-words .ensures)
+    (c .before .before .before .put-report .ensures) (c .number .ensures)
 
 pub v850-run-spec : {M : Type 1} → statement M
 v850-run-spec =
