@@ -85,7 +85,7 @@ by-value i m x y e f = (λ u. f, λ u. absurd (true≢false (sym u ∙ e)))
 by-bits : (i m x y : ℕ) → bitCells i ≡ true → ((k : ℕ) → k < 8 → bit k m ≡ false → bit k x ≡ bit k y) → Agree i m x y
 by-bits i m x y e f = (λ u. absurd (true≢false (sym e ∙ u)), λ u. f)
 
--- the same of three lists at all places
+-- `everywhere` for three lists: what holds of their registers and of what is behind them holds at all places
 each : (P : ℕ → ℕ → ℕ → ℕ → Type 0) (r s t a b d : List ℕ) → length r ≡ REGS → length s ≡ REGS → length t ≡ REGS
     → ((i : ℕ) → i < REGS → P i (getD r i 0) (getD s i 0) (getD t i 0)) → ((j : ℕ) → P (REGS + j) (getD a j 0) (getD b j 0) (getD d j 0))
     → (i : ℕ) → P i (getD (r ++ a) i 0) (getD (s ++ b) i 0) (getD (t ++ d) i 0)

@@ -1,6 +1,6 @@
 -- The place stays within the room, and each read that brings something leaves less of it.
 use mathlib.Core.Path.{_≡_}
-use Prim.Native.Nat.{_-_, _≤_}
+use Prim.Native.Nat.{_+_, _-_, _≤_}
 use native.Mathlib.Omega.{arith}
 use lib.ListN.{length, drop, length-take, length-drop}
 use Rattle.bench_io.specs.Reading.{within}
@@ -47,28 +47,29 @@ same-length-2 c = search needs
 returns-2 : tie.Need-returns-2 Inv-loop μ-loop
 returns-2 c = search needs
 
-add-at : tie.Need-add-at Inv-loop μ-loop
-add-at c =
-    let loop′ = c .before .before .before .before .before .before .before .before .before .loop in
+-- What a read brings lies within the rest of the room.
+abbrev loop′ : tie.After-got Inv-loop μ-loop → tie.At-loop Inv-loop μ-loop
+loop′ c = c .before .before .before .before .before .before .before
+
+brought : (c : tie.After-got Inv-loop μ-loop) → loop′ c .loop .at + c .got .given .0 .0 ≤ length (loop′ c .loop .room)
+brought c =
+    let place = loop′ c .loop .at in
+    let room = loop′ c .loop .room in
     omega (
       arith,
-      within (c .before .before .before .before .before .before .more .ensures) (c .before .before .got .given .1),
-      length-take (length (loop′ .room) - loop′ .at) (drop (loop′ .at) (loop′ .room)),
-      length-drop (loop′ .at) (loop′ .room),
+      within (c .before .before .before .before .more .ensures) (c .got .given .1),
+      length-take (length room - place) (drop place room),
+      length-drop place room,
     )
+
+add-at : tie.Need-add-at Inv-loop μ-loop
+add-at c = omega (arith, brought (c .before .before))
 
 loop-less : tie.Need-loop-less Inv-loop μ-loop
 loop-less c = search needs
 
 loop-again : tie.Need-loop-again Inv-loop μ-loop
-loop-again c =
-    let loop′ = c .before .before .before .before .before .before .before .before .before .loop in
-    omega (
-      arith,
-      within (c .before .before .before .before .before .before .more .ensures) (c .before .before .got .given .1),
-      length-take (length (loop′ .room) - loop′ .at) (drop (loop′ .at) (loop′ .room)),
-      length-drop (loop′ .at) (loop′ .room),
-    )
+loop-again c = omega (arith, brought (c .before .before))
 
 same-length-3 : tie.Need-same-length-3 Inv-loop μ-loop
 same-length-3 c = search needs
