@@ -4,7 +4,7 @@
 #   all       prove the library and write target/staticlib/libv850.a
 #   compare   the library beside the second program; CASES=N SEED=S for more or other cases
 #   walks     the second program's walks, their output against the stored one of the crates *_walk
-#   example   the example host and the one in README.md, their output against the stored one
+#   example   the example host and the one in README.md, and a host of what install leaves; their output against the stored one
 #   teeth     the comparison and the walks with each seeded fault; prints docs/FAULTS-FOUND.md
 #   speed     ns and instructions a step
 #   install   library, header and v850.pc under PREFIX
@@ -26,7 +26,7 @@ library:
 	@rt staticlib v850 >&2
 endif
 
-.PHONY: all library setup header compare walks example readme teeth speed bench install clean run test
+.PHONY: all library setup header compare walks example readme installed teeth speed bench install clean run test
 
 all: library
 
@@ -46,7 +46,7 @@ compare: setup library
 walks:
 	@$(SUB) -C tests/walks run
 
-example: setup header library readme
+example: setup header library readme installed
 	@mkdir -p target/example
 	@$(X86) cc -std=c11 -O2 $(WARN) -Iinclude -static -o target/example/host examples/host.c $(LIBRARY)
 	@$(X86) run target/example/host >target/example/host.out
@@ -64,6 +64,17 @@ readme: setup library
 	@$(X86) run target/example/readme >target/example/readme.out
 	@grep -qxF "    $$(cat target/example/readme.out)" README.md
 	@echo "README.md: as it says"
+
+# What install leaves is all that a host needs: the example once more, by way of v850.pc where there is a pkg-config.
+installed: setup library
+	@rm -rf target/example/usr
+	@$(SUB) install LIBRARY=$(LIBRARY) DESTDIR= PREFIX=target/example/usr >/dev/null
+	@flags="-Itarget/example/usr/include -Ltarget/example/usr/lib -lv850"; \
+		if command -v pkg-config >/dev/null; then \
+			flags=$$(PKG_CONFIG_PATH=target/example/usr/lib/pkgconfig pkg-config --cflags --libs v850) || exit 1; fi; \
+		$(X86) cc -std=c11 -O2 $(WARN) -static -o target/example/installed examples/host.c $$flags
+	@$(X86) run target/example/installed | diff examples/host.expected -
+	@echo "make install: enough for a host"
 
 teeth: setup library
 	@$(SUB) -C tests/compare teeth LIBRARY=$(LIBRARY)
@@ -95,7 +106,5 @@ test:
 	@$(SUB) header
 	@$(SUB) -s -C tests/second test
 	@$(SUB) -C tests/compare self
-	@$(SUB) compare
-	@$(SUB) walks
-	@$(SUB) example
+	@$(SUB) compare walks example
 	@rt ci
