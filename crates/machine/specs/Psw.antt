@@ -48,9 +48,9 @@ PSW = 5
 abbrev pub sys : ℕ → ℕ
 sys n = REGS + n
 
--- all of them
+-- all of them: PSW's is the last
 abbrev pub CELLS : ℕ
-CELLS = 38
+CELLS = sys PSW + 1
 
 -- Bits beside their marks, bit for bit
 pub record Bits : Type 0 where
