@@ -46,13 +46,15 @@ check() {
 run_ns() { "$X86" run "$speed" "$1" images/alu.bin "$2" 100 2000 | field ns; }
 ns() { "$X86" run "$speed" "$1" "images/$2.bin" $size $budget $tries | field ns; }
 
-printf '%-8s %26s %8s   %26s %8s\n' image "ns a step$emulated" ratio "instructions a step" ratio
-printf '%-8s %13s %12s %8s   %13s %12s %8s\n' "" v850 second "" v850 second ""
+model=$(lscpu 2>/dev/null | sed -n 's/^Model name: *//p' || true)
+printf '%s, %s\n\n' "$(date +%F)" "${model:-$(uname -m)}"
+printf '%-8s %26s %8s   %26s %8s\n' image "ns a step$emulated" "times" "instructions a step" "times"
+printf '%-8s %13s %12s %8s   %13s %12s %8s\n' "" v850 second "as fast" v850 second "fewer"
 for image in $images; do
     check "$image"
     a=$(ns v850 "$image") b=$(ns second "$image")
     c=$(steps_cost v850 "$image") d=$(steps_cost second "$image")
-    printf '%-8s %13.1f %12.1f %8s   %13s %12s %8s\n' "$image" "$(ratio "$a" $budget)" "$(ratio "$b" $budget)" "$(ratio "$a" "$b")" "$c" "$d" "$(ratio "$c" "$d")"
+    printf '%-8s %13.1f %12.1f %8s   %13s %12s %8s\n' "$image" "$(ratio "$a" $budget)" "$(ratio "$b" $budget)" "$(ratio "$b" "$a")" "$c" "$d" "$(ratio "$d" "$c")"
     [ "$image" != alu ] || { ours=$c theirs=$d; }
 done
 echo
