@@ -172,18 +172,20 @@ pub fn long(reg2: u32, opcode: u32, reg1: u32, w: u32) -> Decoded
         0b110111 => imm16(Imm16Op::Mulhi, extend::sign16(w), reg1, reg2),
         0b111000 => ld(Size::Byte, extend::sign16(w), reg1, reg2),
         0b111001 => {
+            let disp = extend::sign16(w / 2 * 2);
             if w % 2 == 0 {
-                ld(Size::Half, extend::sign16(w), reg1, reg2)
+                ld(Size::Half, disp, reg1, reg2)
             } else {
-                ld(Size::Word, extend::sign16(w - 1), reg1, reg2)
+                ld(Size::Word, disp, reg1, reg2)
             }
         }
         0b111010 => st(Size::Byte, extend::sign16(w), reg1, reg2),
         0b111011 => {
+            let disp = extend::sign16(w / 2 * 2);
             if w % 2 == 0 {
-                st(Size::Half, extend::sign16(w), reg1, reg2)
+                st(Size::Half, disp, reg1, reg2)
             } else {
-                st(Size::Word, extend::sign16(w - 1), reg1, reg2)
+                st(Size::Word, disp, reg1, reg2)
             }
         }
         0b111100 => jarl(reg2, opcode, reg1, w),
@@ -219,9 +221,6 @@ fn extended(reg2: u32, reg1: u32, w: u32) -> Decoded
     requires { ⌜ (reg2 < 32) × (reg1 < 32) × (w < 2 ^ 16) ⌝ }
     ensures { λ r. ⌜ r ≡ decodeExtended reg2 reg1 w ⌝ }
 {
-    if 0b0011 <= w / 128 % 16 {
-        return Decoded::Illegal;
-    }
     match w {
         0x0000 => when(reg1 < 16, Insn::Setf { cond: reg1, reg2 }),
         0x0020 => when(
@@ -245,7 +244,13 @@ fn extended(reg2: u32, reg1: u32, w: u32) -> Decoded
                 when(reg2 == 16 && reg1 == 0, Insn::Ei)
             }
         }
-        _ => Decoded::Undefined,
+        _ => {
+            if 0b0011 <= w / 128 % 16 {
+                Decoded::Illegal
+            } else {
+                Decoded::Undefined
+            }
+        }
     }
 }
 
@@ -335,7 +340,7 @@ fn disp9(h: u32) -> u32
     requires { ⌜ h < 2 ^ 16 ⌝ }
     ensures { λ r. ⌜ r ≡ disp9 (reg2Of h) (opcodeOf h) (reg1Of h) ⌝ }
 {
-    extend::sign9(h / 2048 * 16 + h / 16 % 8 * 2)
+    (extend::sign5(h / 2048) << 4) + h / 16 % 8 * 2
 }
 
 fn disp22(opcode: u32, reg1: u32, w: u32) -> u32

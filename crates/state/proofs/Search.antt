@@ -59,11 +59,13 @@ module _ {map sizes : List ℕ} {n : ℕ} (pre : (n < 3) × Sizes map sizes × L
       let within = pre .2 .below k h in
       let here = inside map n a k within word (omega arith) in
       let above = covered map (2 ^ n) a k (here .0) .above in
-      let small = seen-small map n k in (
+      let small = seen-small map n k in
+      let held = pre .2 .places k h in (
         rw (e .0) (ap At (omega arith) ∙ sym (only map (pre .2) (2 ^ n) a k h (here .0))),
         record {
           each = λ i j. only map (pre .2) (2 ^ n) (a + i) k h (inside map n (a + i) k within (omega arith) (omega arith) .0) ∙ ap At (omega arith);
           below = λ i. omega arith;
+          places = λ i. omega arith;
         },
       )
 

@@ -28,7 +28,8 @@ pub record Laid (map : List ℕ) : Type 0 where
 abbrev pub spotOf : Place → Spot
 spotOf p = cond (p .found) (At (p .at)) Nowhere
 
--- the bytes from a on lie in memory one behind the other, as many as are left
+-- the bytes from a on lie in memory one behind the other, as many as are left, and within the largest memory
 pub record Onward (map : List ℕ) (right a : ℕ) (p : Place) : Type 0 where
   pub each : (i : ℕ) → i < p .left → find map right (a + i) ≡ At (p .at + i)
   pub below : 0 < p .left → a + p .left ≤ 2 ^ 24
+  pub places : 0 < p .left → p .at + p .left ≤ 2 ^ 16

@@ -107,7 +107,7 @@ fn place(map: &[u32; MAP], sizes: &[u32; SIZES], right: u32, k: usize, a: u32) -
     let d = sums::difference(a, base(map, k));
     Place {
         found: true,
-        at: offset(map, k) + d,
+        at: sums::sum(offset(map, k), d),
         left: size_to(sizes, right, k) - d,
     }
 }
@@ -155,7 +155,7 @@ pub fn second(map: &[u32; MAP], sizes: &[u32; SIZES], p: Place, a: u32) -> Spot
     ensures { λ r. ⌜ r ≡ find (now (map .entry)) FETCH (sum24 a 2) ⌝ }
 {
     if 2 < p.left {
-        return Spot::At(p.at as usize + 2);
+        return Spot::At((p.at + 2) as usize);
     }
     find(map, sizes, TO_FETCH, extend::sum24(a, 2))
 }

@@ -25,12 +25,6 @@ pub fn sign8(n: u32) -> u32
     by_sign(7, n % 256)
 }
 
-pub fn sign9(n: u32) -> u32
-    ensures { λ r. ⌜ r ≡ signExtend 9 n ⌝ }
-{
-    by_sign(8, n % 512)
-}
-
 pub fn sign16(n: u32) -> u32
     ensures { λ r. ⌜ r ≡ signExtend 16 n ⌝ }
 {

@@ -8,9 +8,6 @@ use borrow.Author.Needs.{needs}
 use Rattle.insn.proofs.decode.extended.Statement.{statement}
 use Rattle.insn.proofs.decode.extended.Tie as tie
 
-returns : tie.Need-returns
-returns c = at-illegal _ _ _ (c .if1 .taken)
-
 when-requires : tie.Need-when-requires
 when-requires c κs = search needs
 
@@ -50,67 +47,69 @@ when-requires-7 c κs = search needs
 when-requires-8 : tie.Need-when-requires-8
 when-requires-8 c κs = search needs
 
+returns : tie.Need-returns
+unfolding decodeExtended
+returns c = rw (c .before .match .keys1) (c .when .ensures)
+
 returns-2 : tie.Need-returns-2
 unfolding decodeExtended
-returns-2 c = rw (c .before .match .keys1) (c .when .ensures)
+returns-2 c = rw (c .before .before .match .keys2) (c .when2 .ensures ∙ rw (c .before .loads .ensures))
 
 returns-3 : tie.Need-returns-3
 unfolding decodeExtended
-returns-3 c = rw (c .before .before .match .keys2) (c .when2 .ensures ∙ rw (c .before .loads .ensures))
+returns-3 c = rw (c .before .before .match .keys3) (c .when3 .ensures ∙ rw (c .before .stores .ensures))
 
 returns-4 : tie.Need-returns-4
 unfolding decodeExtended
-returns-4 c = rw (c .before .before .match .keys3) (c .when3 .ensures ∙ rw (c .before .stores .ensures))
+returns-4 c = rw (c .before .match .keys4) (c .shift .ensures)
 
 returns-5 : tie.Need-returns-5
 unfolding decodeExtended
-returns-5 c = rw (c .before .match .keys4) (c .shift .ensures)
+returns-5 c = rw (c .before .match .keys5) (c .shift2 .ensures)
 
 returns-6 : tie.Need-returns-6
 unfolding decodeExtended
-returns-6 c = rw (c .before .match .keys5) (c .shift2 .ensures)
+returns-6 c = rw (c .before .match .keys6) (c .shift3 .ensures)
 
 returns-7 : tie.Need-returns-7
 unfolding decodeExtended
-returns-7 c = rw (c .before .match .keys6) (c .shift3 .ensures)
+returns-7 c = rw (c .before .match .keys7) (c .when4 .ensures)
 
 returns-8 : tie.Need-returns-8
 unfolding decodeExtended
-returns-8 c = rw (c .before .match .keys7) (c .when4 .ensures)
+returns-8 c =
+    let e = c .when5 .ensures in
+    ⊎-elim (λ p. rw (c .before .before .match .keys8, eq-eqb _ _ (p .0 .taken)) (e ∙ rw (p .1)))
+    (λ p. rw (c .before .before .match .keys8, ne-eqb _ _ (p .0 .left)) (e ∙ rw (p .1 ∙ ne-eqb _ _ (p .0 .left)))) (c .before .if1 .came)
 
 returns-9 : tie.Need-returns-9
 unfolding decodeExtended
 returns-9 c =
-    let e = c .when5 .ensures in
-    ⊎-elim (λ p. rw (c .before .before .match .keys8, eq-eqb _ _ (p .0 .taken)) (e ∙ rw (p .1)))
-    (λ p. rw (c .before .before .match .keys8, ne-eqb _ _ (p .0 .left)) (e ∙ rw (p .1 ∙ ne-eqb _ _ (p .0 .left)))) (c .before .if2 .came)
+    let e = c .when6 .ensures in
+    ⊎-elim (λ p. rw (c .before .before .match .keys9, eq-eqb _ _ (p .0 .taken)) (e ∙ rw (p .1)))
+    (λ p. rw (c .before .before .match .keys9, ne-eqb _ _ (p .0 .left)) (e ∙ rw (p .1 ∙ ne-eqb _ _ (p .0 .left)))) (c .before .if2 .came)
 
 returns-10 : tie.Need-returns-10
 unfolding decodeExtended
-returns-10 c =
-    let e = c .when6 .ensures in
-    ⊎-elim (λ p. rw (c .before .before .match .keys9, eq-eqb _ _ (p .0 .taken)) (e ∙ rw (p .1)))
-    (λ p. rw (c .before .before .match .keys9, ne-eqb _ _ (p .0 .left)) (e ∙ rw (p .1 ∙ ne-eqb _ _ (p .0 .left)))) (c .before .if3 .came)
+returns-10 c = rw (c .before .before .match .keys10, eq-eqb _ _ (c .before .if3 .taken)) (c .when7 .ensures)
 
 returns-11 : tie.Need-returns-11
 unfolding decodeExtended
-returns-11 c = rw (c .before .before .match .keys10, eq-eqb _ _ (c .before .if4 .taken)) (c .when7 .ensures)
+returns-11 c =
+    let e = c .when8 .ensures in
+    ⊎-elim (λ p. rw (c .before .before .before .match .keys10, ne-eqb _ _ (c .before .before .if3 .left), eq-eqb _ _ (p .0 .taken)) (e ∙ rw (p .1)))
+    (λ p. rw (c .before .before .before .match .keys10, ne-eqb _ _ (c .before .before .if3 .left), ne-eqb _ _ (p .0 .left)) (e ∙ rw (p .1 ∙ ne-eqb _ _ (p .0 .left)))) (c .before .if4 .came)
 
 returns-12 : tie.Need-returns-12
-unfolding decodeExtended
-returns-12 c =
-    let e = c .when8 .ensures in
-    ⊎-elim (λ p. rw (c .before .before .before .match .keys10, ne-eqb _ _ (c .before .before .if4 .left), eq-eqb _ _ (p .0 .taken)) (e ∙ rw (p .1)))
-    (λ p. rw (c .before .before .before .match .keys10, ne-eqb _ _ (c .before .before .if4 .left), ne-eqb _ _ (p .0 .left)) (e ∙ rw (p .1 ∙ ne-eqb _ _ (p .0 .left)))) (c .before .if5 .came)
+returns-12 c = at-illegal _ _ _ (c .if5 .taken)
 
 returns-13 : tie.Need-returns-13
-returns-13 c = at-none _ _ _ (c .before .if1 .left) (c .match .rest)
+returns-13 c = at-none _ _ _ (c .if5 .left) (c .before .match .rest)
 
 pub extended-spec : {M : Type 1} → statement M
 extended-spec =
     tie.close
     (tie.spec
-    returns
     when-requires
     loads-requires
     when-requires-2
@@ -124,6 +123,7 @@ extended-spec =
     when-requires-6
     when-requires-7
     when-requires-8
+    returns
     returns-2
     returns-3
     returns-4

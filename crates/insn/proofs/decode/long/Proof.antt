@@ -1,5 +1,6 @@
 -- From 110000: each arm is the law in `Arms`, or computes; none is left for the last one.
-use mathlib.Core.Path.{_∙_}
+use mathlib.Core.Path.{_≡_, _∙_}
+use Prim.Native.Nat.{ℕ, _-_, _*_, _/_, _%_}
 use native.Mathlib.Omega.{arith}
 use borrow.Author.Tests.{eq-eqb, ne-eqb}
 use borrow.Author.Needs.{needs}
@@ -9,6 +10,13 @@ use Rattle.insn.specs.Arms.{at-imm16}
 use Rattle.insn.specs.declared.Imm16Op.the-variants.{Addi, Movea, Movhi, Satsubi, Ori, Xori, Andi, Mulhi}
 use Rattle.insn.proofs.decode.long.Statement.{statement}
 use Rattle.insn.proofs.decode.long.Tie as tie
+
+-- a second halfword without its lowest bit, which says the size
+even : (w : ℕ) → w % 2 ≡ 0 → w / 2 * 2 ≡ w
+even w h = omega (arith, h)
+
+odd : (w : ℕ) → (w % 2 ≡ 0 → ⊥) → w / 2 * 2 ≡ w - 1
+odd w h = omega (arith, h)
 
 sign16-requires : tie.Need-sign16-requires
 sign16-requires c κs = search needs
@@ -64,38 +72,32 @@ sign16-requires-5 c κs = search needs
 ld-requires : tie.Need-ld-requires
 ld-requires c κs = search needs
 
+mul-sign16 : tie.Need-mul-sign16
+mul-sign16 c = search needs
+
 sign16-requires-6 : tie.Need-sign16-requires-6
 sign16-requires-6 c κs = search needs
 
 ld-requires-2 : tie.Need-ld-requires-2
 ld-requires-2 c κs = search needs
 
-sub-sign16 : tie.Need-sub-sign16
-sub-sign16 c = search needs
+ld-requires-3 : tie.Need-ld-requires-3
+ld-requires-3 c κs = search needs
 
 sign16-requires-7 : tie.Need-sign16-requires-7
 sign16-requires-7 c κs = search needs
 
-ld-requires-3 : tie.Need-ld-requires-3
-ld-requires-3 c κs = search needs
+st-requires : tie.Need-st-requires
+st-requires c κs = search needs
+
+mul-sign16-2 : tie.Need-mul-sign16-2
+mul-sign16-2 c = search needs
 
 sign16-requires-8 : tie.Need-sign16-requires-8
 sign16-requires-8 c κs = search needs
 
-st-requires : tie.Need-st-requires
-st-requires c κs = search needs
-
-sign16-requires-9 : tie.Need-sign16-requires-9
-sign16-requires-9 c κs = search needs
-
 st-requires-2 : tie.Need-st-requires-2
 st-requires-2 c κs = search needs
-
-sub-sign16-2 : tie.Need-sub-sign16-2
-sub-sign16-2 c = search needs
-
-sign16-requires-10 : tie.Need-sign16-requires-10
-sign16-requires-10 c κs = search needs
 
 st-requires-3 : tie.Need-st-requires-3
 st-requires-3 c κs = search needs
@@ -109,8 +111,8 @@ jarl-requires-2 c κs = search needs
 bit-op-requires : tie.Need-bit-op-requires
 bit-op-requires c κs = search needs
 
-sign16-requires-11 : tie.Need-sign16-requires-11
-sign16-requires-11 c κs = search needs
+sign16-requires-9 : tie.Need-sign16-requires-9
+sign16-requires-9 c κs = search needs
 
 extended-requires : tie.Need-extended-requires
 extended-requires c κs = search needs
@@ -154,34 +156,30 @@ returns-9 c = rw (c .before .before .match .keys9) (c .ld .ensures ∙ rw (c .be
 returns-10 : tie.Need-returns-10
 unfolding decodeFields
 returns-10 c =
-    let match′ = c .before .before .before .match in
-    let if1′ = c .before .before .if1 in
-    rw (match′ .keys10, eq-eqb _ _ (if1′ .taken)) (c .ld2 .ensures ∙ rw (c .before .sign166 .ensures))
+    let if1′ = c .before .if1 in
+    rw (c .before .before .before .match .keys10, eq-eqb _ _ (if1′ .taken)) (c .ld2 .ensures ∙ rw (c .before .before .sign166 .ensures, even _ (if1′ .taken)))
 
 returns-11 : tie.Need-returns-11
 unfolding decodeFields
 returns-11 c =
-    let match′ = c .before .before .before .match in
-    let if1′ = c .before .before .if1 in
-    rw (match′ .keys10, ne-eqb _ _ (if1′ .left)) (c .ld3 .ensures ∙ rw (c .before .sign167 .ensures))
+    let if1′ = c .before .if1 in
+    rw (c .before .before .before .match .keys10, ne-eqb _ _ (if1′ .left)) (c .ld3 .ensures ∙ rw (c .before .before .sign166 .ensures, odd _ (if1′ .left)))
 
 returns-12 : tie.Need-returns-12
 unfolding decodeFields
-returns-12 c = rw (c .before .before .match .keys11) (c .st .ensures ∙ rw (c .before .sign168 .ensures))
+returns-12 c = rw (c .before .before .match .keys11) (c .st .ensures ∙ rw (c .before .sign167 .ensures))
 
 returns-13 : tie.Need-returns-13
 unfolding decodeFields
 returns-13 c =
-    let match′ = c .before .before .before .match in
-    let if2′ = c .before .before .if2 in
-    rw (match′ .keys12, eq-eqb _ _ (if2′ .taken)) (c .st2 .ensures ∙ rw (c .before .sign169 .ensures))
+    let if2′ = c .before .if2 in
+    rw (c .before .before .before .match .keys12, eq-eqb _ _ (if2′ .taken)) (c .st2 .ensures ∙ rw (c .before .before .sign168 .ensures, even _ (if2′ .taken)))
 
 returns-14 : tie.Need-returns-14
 unfolding decodeFields
 returns-14 c =
-    let match′ = c .before .before .before .match in
-    let if2′ = c .before .before .if2 in
-    rw (match′ .keys12, ne-eqb _ _ (if2′ .left)) (c .st3 .ensures ∙ rw (c .before .sign1610 .ensures))
+    let if2′ = c .before .if2 in
+    rw (c .before .before .before .match .keys12, ne-eqb _ _ (if2′ .left)) (c .st3 .ensures ∙ rw (c .before .before .sign168 .ensures, odd _ (if2′ .left)))
 
 returns-15 : tie.Need-returns-15
 unfolding decodeFields
@@ -193,7 +191,7 @@ returns-16 c = c .jarl2 .ensures ∙ rw (c .before .match .keys14)
 
 returns-17 : tie.Need-returns-17
 unfolding decodeFields
-returns-17 c = rw (c .before .before .match .keys15, c .before .bit-op .ensures, c .sign1611 .ensures)
+returns-17 c = rw (c .before .before .match .keys15, c .before .bit-op .ensures, c .sign169 .ensures)
 
 returns-18 : tie.Need-returns-18
 unfolding decodeFields
@@ -224,22 +222,20 @@ long-spec =
     imm16-requires-8
     sign16-requires-5
     ld-requires
+    mul-sign16
     sign16-requires-6
     ld-requires-2
-    sub-sign16
-    sign16-requires-7
     ld-requires-3
-    sign16-requires-8
+    sign16-requires-7
     st-requires
-    sign16-requires-9
+    mul-sign16-2
+    sign16-requires-8
     st-requires-2
-    sub-sign16-2
-    sign16-requires-10
     st-requires-3
     jarl-requires
     jarl-requires-2
     bit-op-requires
-    sign16-requires-11
+    sign16-requires-9
     extended-requires
     returns
     returns-2

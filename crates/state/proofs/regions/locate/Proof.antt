@@ -58,7 +58,7 @@ returns-5 c =
       unplaced (start′ .pre) (start′ .args .a) (omega arith)
           (before′ .before .before .before .inside .ensures) (before′ .before .before .if1 .left) (before′ .before .inside2 .ensures) (before′ .if2 .left)
           (c .before .before .before .inside3 .ensures) (c .before .before .if3 .left) (c .before .inside4 .ensures) (c .if4 .left),
-      record { each = λ i j. absurd (omega arith); below = λ i. absurd (omega arith) },
+      record { each = λ i j. absurd (omega arith); below = λ i. absurd (omega arith); places = λ i. absurd (omega arith) },
     )
 
 pub locate-spec : {M : Type 1} → statement M

@@ -9,11 +9,11 @@ use Rattle.machine.specs.Regions.{FETCH, find}
 use Rattle.state.proofs.regions.second.Statement.{statement}
 use Rattle.state.proofs.regions.second.Tie as tie
 
-cast-t6 : tie.Need-cast-t6
-cast-t6 c = search needs
+add-t6 : tie.Need-add-t6
+add-t6 c = omega (arith, c .before .before .before .pre .2 .places (omega (arith, c .before .if1 .taken)))
 
-add-t7 : tie.Need-add-t7
-add-t7 c = search needs
+cast-t7 : tie.Need-cast-t7
+cast-t7 c = search needs
 
 returns : tie.Need-returns
 returns c =
@@ -36,4 +36,4 @@ returns-2 c =
     c .find .ensures ∙ ap (λ (b : ℕ). find (now (args′ .map)) FETCH b) (c .before .sum24 .ensures)
 
 pub second-spec : {M : Type 1} → statement M
-second-spec = tie.close (tie.spec cast-t6 add-t7 returns sum24-requires find-requires returns-2)
+second-spec = tie.close (tie.spec add-t6 cast-t7 returns sum24-requires find-requires returns-2)
