@@ -172,6 +172,7 @@ pub fn long(reg2: u32, opcode: u32, reg1: u32, w: u32) -> Decoded
         0b110111 => imm16(Imm16Op::Mulhi, extend::sign16(w), reg1, reg2),
         0b111000 => ld(Size::Byte, extend::sign16(w), reg1, reg2),
         0b111001 => {
+            // bit 0 says the size, and is none of the displacement's
             let disp = extend::sign16(w / 2 * 2);
             if w % 2 == 0 {
                 ld(Size::Half, disp, reg1, reg2)
@@ -181,6 +182,7 @@ pub fn long(reg2: u32, opcode: u32, reg1: u32, w: u32) -> Decoded
         }
         0b111010 => st(Size::Byte, extend::sign16(w), reg1, reg2),
         0b111011 => {
+            // bit 0 says the size, and is none of the displacement's
             let disp = extend::sign16(w / 2 * 2);
             if w % 2 == 0 {
                 st(Size::Half, disp, reg1, reg2)
@@ -216,7 +218,7 @@ fn jarl(reg2: u32, opcode: u32, reg1: u32, w: u32) -> Decoded
     )
 }
 
-// Opcode 111111, by the second halfword.
+// Opcode 111111, by the second halfword. The ten that are instructions come first: none of them has the bits of the illegal code.
 fn extended(reg2: u32, reg1: u32, w: u32) -> Decoded
     requires { ⌜ (reg2 < 32) × (reg1 < 32) × (w < 2 ^ 16) ⌝ }
     ensures { λ r. ⌜ r ≡ decodeExtended reg2 reg1 w ⌝ }
@@ -336,6 +338,7 @@ fn disp7(h: u32) -> u32
     h % 128
 }
 
+// The upper field has the sign, so it alone is extended: that is shorter than to put all bits together first.
 fn disp9(h: u32) -> u32
     requires { ⌜ h < 2 ^ 16 ⌝ }
     ensures { λ r. ⌜ r ≡ disp9 (reg2Of h) (opcodeOf h) (reg1Of h) ⌝ }

@@ -99,7 +99,7 @@ fn inside(map: &[u32; MAP], sizes: &[u32; SIZES], right: u32, k: usize, a: u32) 
     sums::difference(a, base(map, k)) < size_to(sizes, right, k)
 }
 
-// Where the address lies in region k, which covers it.
+// Where the address lies in region k, which covers it. The sum is one that may wrap, though it never does: the compiler then keeps it in 32 bits.
 fn place(map: &[u32; MAP], sizes: &[u32; SIZES], right: u32, k: usize, a: u32) -> Place
     requires { ⌜ (right < 3) × (k < 4) × (difference a (base (now map) k) < getD (now sizes) (4 * right + k) 0) × (offset (now map) k + getD (now sizes) (4 * right + k) 0 ≤ 2 ^ 16) ⌝ }
     ensures { λ r. ⌜ (r .found ≡ true) × (r .at ≡ offset (now (map .entry)) k + difference a (base (now (map .entry)) k)) × (r .left + difference a (base (now (map .entry)) k) ≡ getD (now (sizes .entry)) (4 * right + k) 0) ⌝ }
