@@ -7,6 +7,8 @@
 //
 // Steps: MOV, five rounds of ADD and BNZ, HALT: 12. PC is behind HALT. PSW: ID of reset, and from the last ADD, 1 + FFFFFFFFH,
 // CY and Z: 20H + 8 + 1.
+#![tactic(auto)]
+
 fn main() {
     bench_io::bench();
 }

@@ -6,6 +6,8 @@
 //   FFE  5F 02         ADD -1, r0: 0 + FFFFFFFFH sets S; the value is dropped
 //
 // Then nothing is there to fetch: NOFETCH at 1000H, after three steps. PSW: ID of reset, and S.
+#![tactic(auto)]
+
 fn main() {
     bench_io::bench();
 }

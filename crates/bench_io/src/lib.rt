@@ -1,5 +1,7 @@
 // Standard input to standard output: reads the input, and writes its line. What the line is, `bench_line` says and proves; no
 // contract can say what is read or written.
+#![tactic(auto)]
+
 ghost use Rattle.std.specs.Prelude.{length};
 ghost use Rattle.bench_io.specs.Reading.{Within};
 
@@ -10,7 +12,7 @@ use libc::{STDERR_FILENO, STDIN_FILENO, STDOUT_FILENO};
 const ROOM: usize = IMAGE + 1;
 
 // How many bytes were read, or that they could not be.
-#[derive(Drop)]
+#[derive(Clone, Copy)]
 enum Input {
     Read(usize),
     Failed,

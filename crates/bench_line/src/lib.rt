@@ -1,4 +1,6 @@
 // The bench: from the bytes of its input to the one line that it writes. A program over it only reads and writes.
+#![tactic(auto)]
+
 mod image;
 mod text;
 

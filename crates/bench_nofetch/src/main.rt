@@ -5,6 +5,8 @@
 //   8  61 00         JMP [r1]
 //
 // Three steps, and none of them touches a flag.
+#![tactic(auto)]
+
 fn main() {
     bench_io::bench();
 }

@@ -2,6 +2,8 @@
 //
 //   0  1F 0A         MOV -1, r1
 //   2  21 17 01 00   LD.W 0[r1], r2: FFFFFFFFH, so FFFFFCH
+#![tactic(auto)]
+
 fn main() {
     bench_io::bench();
 }

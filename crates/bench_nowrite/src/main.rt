@@ -2,6 +2,8 @@
 //
 //   0  60 0F FE 0F   ST.H r1, 0FFEH[r0]
 //   4  40 0F 00 10   ST.B r1, 1000H[r0]
+#![tactic(auto)]
+
 fn main() {
     bench_io::bench();
 }

@@ -4,7 +4,7 @@ use crate::lists::{NUMBERS, REGISTERS, VALUES};
 use insn::{BitOp, Imm5Op, Imm16Op, Insn, RegOp, ShiftOp, Size};
 
 // An instruction without its operands.
-#[derive(Drop)]
+#[derive(Clone, Copy)]
 pub(crate) enum Form {
     Reg(RegOp),
     Jmp,

@@ -15,6 +15,8 @@
 //   Bcond   50 * 16 of 20,160           JARL   180 * 5 of 4,032       SET1, ..   216 * 8 * 5 of 161,280
 //   imm16 with a sign   216 * 25 of 32,256, without   117 * 25        LD.B, ST.B   216 * 25, the others   120 * 25
 //   SETF   16 * 5 of 320                LDSR   5 * 5, STSR   6 * 5    TRAP   32 of 40
+#![tactic(auto)]
+
 mod forms;
 mod lists;
 mod tally;

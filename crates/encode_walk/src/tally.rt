@@ -2,7 +2,7 @@
 use insn::Encoded;
 use libc::STDOUT_FILENO;
 
-#[derive(Drop)]
+#[derive(Clone, Copy)]
 pub(crate) struct Tally {
     one: u32,
     two: u32,

@@ -1,4 +1,5 @@
 // The instructions of the base, and the halfwords that spell them.
+#![tactic(auto)]
 
 pub mod decode;
 pub mod encode;
@@ -7,7 +8,7 @@ pub mod encode;
 pub(crate) const HALFWORDS: u32 = 0x10000;
 
 // Format I: register and register. JMP, which has one operand, is an instruction of its own.
-#[derive(Drop)]
+#[derive(Clone, Copy)]
 pub enum RegOp {
     Mov,
     Not,
@@ -27,7 +28,7 @@ pub enum RegOp {
 }
 
 // Format II: a 5-bit immediate and a register. The 5 in a name tells it from the register form.
-#[derive(Drop)]
+#[derive(Clone, Copy)]
 pub enum Imm5Op {
     Mov5,
     Satadd5,
@@ -40,7 +41,7 @@ pub enum Imm5Op {
 }
 
 // Format VI: a 16-bit immediate, a register and a target.
-#[derive(Drop)]
+#[derive(Clone, Copy)]
 pub enum Imm16Op {
     Addi,
     Movea,
@@ -53,7 +54,7 @@ pub enum Imm16Op {
 }
 
 // Format IX: shifts by a register.
-#[derive(Drop)]
+#[derive(Clone, Copy)]
 pub enum ShiftOp {
     Shr,
     Sar,
@@ -61,7 +62,7 @@ pub enum ShiftOp {
 }
 
 // Format VIII: bits of a byte in memory.
-#[derive(Drop)]
+#[derive(Clone, Copy)]
 pub enum BitOp {
     Set1,
     Not1,
@@ -69,7 +70,7 @@ pub enum BitOp {
     Tst1,
 }
 
-#[derive(Drop)]
+#[derive(Clone, Copy)]
 pub enum Size {
     Byte,
     Half,
@@ -78,7 +79,7 @@ pub enum Size {
 
 // An instruction and its operands. Immediates and displacements are the words that they stand for, a negative one in two's
 // complement: -2 is FFFFFFFEH.
-#[derive(Drop)]
+#[derive(Clone, Copy)]
 pub enum Insn {
     Reg {
         op: RegOp,
@@ -162,7 +163,7 @@ pub enum Insn {
 }
 
 // What a halfword, or two, stand for.
-#[derive(Drop)]
+#[derive(Clone, Copy)]
 pub enum Decoded {
     Valid(Insn),
     Illegal,
@@ -170,7 +171,7 @@ pub enum Decoded {
 }
 
 // An instruction's halfwords, or the refusal FIELD.
-#[derive(Drop)]
+#[derive(Clone, Copy)]
 pub enum Encoded {
     One(u16),
     Two(u16, u16),

@@ -20,6 +20,8 @@
 //   0001 0060 00e0 0161 017f   no number, bits 26-23 below 0011: 1,024 undefined
 //   0800 0820 8000 f840   bits 26-23 are 0000, for bit 27 and up do not count there: 1,024 undefined
 //   0180 0181 0200 07ff 7fff 8180 ffff   bits 26-23 from 0011 up: 1,024 illegal
+#![tactic(auto)]
+
 ghost use Rattle.std.specs.Prelude.{◌≤◌};
 
 use insn::{Decoded, Encoded, decode, encode};

@@ -1,14 +1,15 @@
 // The machine: its state, one step of it, and a run.
+#![tactic(auto)]
 
 // A value with its mark.
-#[derive(Drop)]
+#[derive(Clone, Copy)]
 pub struct Tv {
     pub val: u32,
     pub mark: bool,
 }
 
 // What is never marked: PC, the bits NP, EP and ID of PSW, ECR, and the requests (a maskable code or 0, and an NMI) with HALT's state.
-#[derive(Drop)]
+#[derive(Clone, Copy)]
 pub struct Open {
     pub pc: u32,
     pub np: u32,
@@ -21,7 +22,7 @@ pub struct Open {
 }
 
 // What comes back.
-#[derive(Drop)]
+#[derive(Clone, Copy)]
 pub enum Answer {
     Done,
     Size,
@@ -36,21 +37,21 @@ pub enum Answer {
 }
 
 // How a step ends: with the next state, or with a refusal, which changes nothing.
-#[derive(Drop)]
+#[derive(Clone, Copy)]
 pub enum Went {
     Next(Open),
     Stop { answer: Answer, place: u32 },
 }
 
 // Where an operand lies in memory.
-#[derive(Drop)]
+#[derive(Clone, Copy)]
 pub enum Spot {
     At(usize),
     Nowhere,
 }
 
 // The operations on words that instructions share.
-#[derive(Drop)]
+#[derive(Clone, Copy)]
 pub enum Op {
     Mov,
     Not,
@@ -76,7 +77,7 @@ pub enum Op {
 }
 
 // Which flags an operation sets, by families.
-#[derive(Drop)]
+#[derive(Clone, Copy)]
 pub enum Kind {
     Quiet,
     Logic,
@@ -88,7 +89,7 @@ pub enum Kind {
 }
 
 // How a run ended: the answer and its place, the steps taken, and what is never marked as the last step left it.
-#[derive(Drop)]
+#[derive(Clone, Copy)]
 pub struct Ran {
     pub answer: Answer,
     pub place: u32,

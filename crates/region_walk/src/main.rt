@@ -10,6 +10,8 @@
 //   region 1 offset   itself: 32
 // Map 5 has no region, and one of length 4, 8, 8 or 16 at address 0 and offset 0 is good: 2 fillings, 5 memories for the shortest
 // and 4 for the others: 10 + 8 + 8 + 8 = 34 for each length, and 0 for all other words.
+#![tactic(auto)]
+
 ghost use Rattle.std.specs.Prelude.{◌≡◌, ◌≤◌, length};
 
 mod block;

@@ -1,4 +1,5 @@
 // The parts of the machine's state in code: cells with marks, PSW, operations on words, regions and memory.
+#![tactic(auto)]
 
 pub mod cells;
 pub mod map_check;
@@ -15,14 +16,14 @@ pub const MAP: usize = 16;
 pub const SIZES: usize = 12;
 
 // A bit of a byte in memory: Z of a bit instruction, 1 if the bit is 0, and the byte's mark.
-#[derive(Drop)]
+#[derive(Clone, Copy)]
 pub struct Tested {
     pub z: bool,
     pub mark: bool,
 }
 
 // Where an address lies in memory, if a region covers it, and how many bytes that region has from there on.
-#[derive(Drop)]
+#[derive(Clone, Copy)]
 pub struct Place {
     pub found: bool,
     pub at: u32,

@@ -1,4 +1,5 @@
 // One step of the machine in code, and a run: equal to the definition, step for step.
+#![tactic(auto)]
 
 pub mod control;
 pub mod core;
@@ -15,7 +16,7 @@ use machine::{Answer, Op, Open, Tv};
 // What is never marked, in two numbers: a step mostly changes PC alone.
 // `rest` holds the maskable code in bits 0 to 15, an NMI in bit 16, HALT's state in bit 17, ID, EP and NP in bits 18 to 20, and ECR
 // from bit 32 on.
-#[derive(Drop)]
+#[derive(Clone, Copy)]
 pub struct Packed {
     pub pc: u64,
     pub rest: u64,
@@ -23,7 +24,7 @@ pub struct Packed {
 
 // How the code's step ends: `Done`, or a refusal with its place. A calm step changes PC alone of what is never marked, and of its `core`
 // only PC counts: where it went on, nothing new can wait, and the next step need not ask.
-#[derive(Drop)]
+#[derive(Clone, Copy)]
 pub struct Out {
     pub answer: Answer,
     pub place: u32,
@@ -32,7 +33,7 @@ pub struct Out {
 }
 
 // The same with each part by itself, from what changes more than PC.
-#[derive(Drop)]
+#[derive(Clone, Copy)]
 pub struct Wide {
     pub answer: Answer,
     pub place: u32,
@@ -40,7 +41,7 @@ pub struct Wide {
 }
 
 // What an instruction asks for, its operands at hand: instructions of several formats share a task.
-#[derive(Drop)]
+#[derive(Clone, Copy)]
 pub enum Task {
     Compute {
         op: Op,
@@ -96,7 +97,7 @@ pub enum Task {
 }
 
 // The instructions that change more than PC of what is never marked. LDSR does so only to PSW, and is a task of its own.
-#[derive(Drop)]
+#[derive(Clone, Copy)]
 pub enum System {
     Trap { vector: u32 },
     Halt,
@@ -106,7 +107,7 @@ pub enum System {
 }
 
 // What a fetch found: `Done` with what its halfwords decode to, or a refusal with its place.
-#[derive(Drop)]
+#[derive(Clone, Copy)]
 pub struct Fetched {
     pub answer: Answer,
     pub place: u32,
@@ -114,7 +115,7 @@ pub struct Fetched {
 }
 
 // How far a run has come after so many steps: `Done` where it goes on, or the answer and place of the step that was refused there.
-#[derive(Drop)]
+#[derive(Clone, Copy)]
 pub struct Reached {
     pub answer: Answer,
     pub place: u32,

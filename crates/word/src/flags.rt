@@ -28,7 +28,7 @@ const S_OR_OV: u32 = S | OV;
 const S_OR_OV_OR_Z: u32 = S_OR_OV | Z;
 
 // Of a condition: the settings in which it is true, and those in which a flag that it reads is 1.
-#[derive(Drop)]
+#[derive(Clone, Copy)]
 pub struct Sets {
     pub true_in: u32,
     pub read_in: u32,
@@ -91,7 +91,7 @@ fn sets_of(k: u32) -> Sets
 }
 
 // Of a condition: whether it is true of the flags, and whether it reads one that is marked.
-#[derive(Drop)]
+#[derive(Clone, Copy)]
 pub struct Judged {
     pub holds: bool,
     pub reads: bool,

@@ -4,8 +4,7 @@ use lib.Bits.{bit_xor, xor_block, xor_zero_r}
 use lib.Pow.{pow-lt}
 use Rattle.word.specs.Word.{W}
 use Rattle.word.specs.Extend.{by_sign}
-use Rattle.word.proofs.extend.by_sign.Statement.{statement}
-use Rattle.word.proofs.extend.by_sign.Tie as tie
+use Rattle.word.proofs.extend.by_sign.Goals as goal
 
 module _ (k n : ℕ) where
   -- bit k turned over, in a number with q above its k low bits
@@ -31,18 +30,9 @@ module _ (k n : ℕ) where
           let h = ltb-false n (2 ^ k) t in
           rw t (omega (arith, fits, turned 1 (n - 2 ^ k) (omega arith) (omega arith)))
 
-shl-half : tie.Need-overflow-shl-half
-shl-half c = search rules
-
-wrapping-sub-u32-requires : tie.Need-wrapping-sub-u32-requires
-wrapping-sub-u32-requires c κs = search rules
-
-returns : tie.Need-returns
+pub returns : goal.returns
 returns c =
-    let a = c.before.args in
+    let a = c.args in
     let e : 1 * 2 ^ a.k % 2 ^ 32 ≡ 2 ^ a.k = rw (one-mul, mod-eq_of_lt (pow-lt {i = a.k} {j = 32} (omega arith))) in
-    extended a.k a.n c.wrapping-sub-u32.result c.before.requires.0 c.before.requires.1 (search rules)
-    (rw e at c.wrapping-sub-u32.ensures)
-
-pub by-sign-spec : {M : Type 1} → statement M
-by-sign-spec = tie.close (tie.spec shl-half wrapping-sub-u32-requires returns)
+    extended a.k a.n c.wrapping_sub_u32.result c.requires.0 c.requires.1 (search rules)
+    (rw e at c.wrapping_sub_u32.ensures.value)
