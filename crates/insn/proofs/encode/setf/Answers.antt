@@ -1,0 +1,16 @@
+-- Each refusal is a part of the range that fails.
+use borrow.Author.Tests.{lt-ltb, le-ltb}
+use Rattle.insn.specs.Coding.{in_range, halfwords, encode}
+use Rattle.insn.proofs.encode.setf.Goals as goal
+
+pub returns-then-cond-ge16 : goal.returns-then-cond-ge16
+unfolding encode in_range
+returns-then-cond-ge16 c = rw (le-ltb _ _ c.if-cond-ge16.true)
+
+pub returns-then-reg2-ge32 : goal.returns-then-reg2-ge32
+unfolding encode in_range
+returns-then-reg2-ge32 c = rw (lt-ltb _ _ c.if-cond-ge16.false, le-ltb _ _ c.if-reg2-ge32.true)
+
+pub returns : goal.returns
+unfolding encode in_range halfwords
+returns c = rw (lt-ltb _ _ c.if-cond-ge16.false, lt-ltb _ _ c.if-reg2-ge32.false) c.two.ensures
