@@ -1,0 +1,10 @@
+-- An element of the slice is a byte.
+use mathlib.Core.Path.{refl}
+use native.Mathlib.Omega.{arith}
+use Rattle.state.proofs.memory.byte.Goals as goal
+
+pub overflow_cast-result : goal.overflow_cast-result
+overflow_cast-result c = omega (arith, c.shared_slice_known-1.given c.args.p)
+
+pub returns : goal.returns
+returns c = (refl, omega (arith, c.shared_slice_known-1.given c.args.p))

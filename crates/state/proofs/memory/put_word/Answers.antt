@@ -1,0 +1,13 @@
+-- The bytes in the order of the definition.
+use native.Mathlib.Omega.{arith}
+use lib.ListN.{length-set}
+use Rattle.state.proofs.memory.put_word.Goals as goal
+
+pub bounds-mem-p-2 : goal.bounds-mem-p-2
+bounds-mem-p-2 c = simp length-set (omega arith)
+
+pub bounds-mem-p-3 : goal.bounds-mem-p-3
+bounds-mem-p-3 c = simp length-set (omega arith)
+
+pub bounds-mem-p-4 : goal.bounds-mem-p-4
+bounds-mem-p-4 c = simp length-set (omega arith)

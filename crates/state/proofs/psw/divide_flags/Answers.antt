@@ -1,0 +1,19 @@
+-- The sums that are written are those of the family's rules (`set_flags_lem`); where nothing is marked, the sum of marks is 0 (`none`).
+use mathlib.Core.Path.{refl}
+use Rattle.machine.specs.declared.Kind.TheVariants.{Divide}
+use Rattle.state.proofs.Flags.{none, set_flags_lem}
+use Rattle.state.proofs.psw.divide_flags.Goals as goal
+
+pub put_marks-requires : goal.put_marks-requires
+put_marks-requires c e z = rw c.marks.ensures.0 (none Divide e z)
+
+pub returns : goal.returns
+returns c =
+    rw (
+      c.on.ensures.0,
+      c.on-2.ensures.0,
+      c.on-3.ensures.0,
+      c.put_marks.ensures,
+      c.marks.ensures.0,
+    )
+    (set_flags_lem Divide refl _ _ _)
