@@ -1,5 +1,5 @@
 -- What is never marked, in two numbers: packed and taken out it is the same, and what a step makes of it fits again.
-use Rattle.core.specs.Prelude.{◌≡◌, ℕ, ◌+◌, ◌*◌, ◌/◌, ◌%◌, ◌^◌, ◌<◌, true, ◌&&◌, [], ◌==◌}
+use Rattle.std.specs.Prelude.{◌≡◌, ℕ, ◌+◌, ◌*◌, ◌/◌, ◌%◌, ◌^◌, ◌<◌, true, ◌&&◌, [], ◌==◌}
 use Rattle.std.proofs.Common.{sym, ap, arith}
 use Rattle.word.specs.Extend.{sum24}
 use Rattle.machine.specs.declared.Open.{Open}

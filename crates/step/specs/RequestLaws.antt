@@ -1,5 +1,5 @@
 -- The order of a step's checks, from the tests that code makes one by one.
-use Rattle.core.specs.Prelude.{◌≡◌, ℕ, true, false, List, nat_eq}
+use Rattle.std.specs.Prelude.{◌≡◌, ℕ, true, false, List, nat_eq}
 use Rattle.word.specs.Tests.{both_false}
 use Rattle.machine.specs.declared.Open.{Open}
 use Rattle.machine.specs.declared.Answer.TheVariants.{Asleep}

@@ -1,5 +1,5 @@
 -- The registers that an instruction in range names are below 32, and so are a trap's vector and a bit's number below their bounds.
-use Rattle.core.specs.Prelude.{◌≡◌, ℕ, ◌^◌, ◌<◌, Bool, true, cond, ◌&&◌}
+use Rattle.std.specs.Prelude.{◌≡◌, ℕ, ◌^◌, ◌<◌, Bool, true, cond, ◌&&◌}
 use Rattle.std.specs.Prelude.{refl}
 use Rattle.std.proofs.Common.{subst, ltb-true}
 use Rattle.word.specs.Tests.{both_true}

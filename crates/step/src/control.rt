@@ -1,5 +1,5 @@
 // Jumps, branches, system registers, exceptions and returns. None of them touches memory.
-ghost use Rattle.core.specs.Prelude.{◌≡◌, ◌/◌, ◌%◌, ◌^◌, ◌<◌};
+ghost use Rattle.std.specs.Prelude.{◌≡◌, ◌/◌, ◌%◌, ◌^◌, ◌<◌};
 ghost use Rattle.machine.specs.Marked.{Cells, both, lift1, put};
 ghost use Rattle.machine.specs.Psw.{put_reg, condition, sys, bits, put_psw_flags};
 ghost use Rattle.machine.specs.Step.{after, reveal, next, plus, modes, save_pc, save_psw, jmp, bcond, jarl, ldsr, system, exception, trap, illegal, return, reti, nmi_accepted, code_accepted, take_nmi, take_code};

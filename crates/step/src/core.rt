@@ -1,5 +1,5 @@
 // What is never marked, in two numbers; and how a step ends.
-ghost use Rattle.core.specs.Prelude.{◌≡◌, ◌+◌, ◌*◌, ◌/◌, ◌%◌, ◌<◌, true};
+ghost use Rattle.std.specs.Prelude.{◌≡◌, ◌+◌, ◌*◌, ◌/◌, ◌%◌, ◌<◌, true};
 ghost use Rattle.machine.specs.Step.{goto, plus};
 ghost use Rattle.step.specs.Tasks.{open_of, Fits, goes_on, next_of, went_to, went_of, went_wide};
 

@@ -1,5 +1,5 @@
 // One step: what comes before the next instruction; or fetch, decode, and the instruction's task.
-ghost use Rattle.core.specs.Prelude.{◌≡◌, ℕ, ◌%◌, true, List};
+ghost use Rattle.std.specs.Prelude.{◌≡◌, ℕ, ◌%◌, true, List};
 ghost use Rattle.machine.specs.Marked.{Cells, both};
 ghost use Rattle.machine.specs.Step.{after, execute, instruction, step};
 ghost use Rattle.step.specs.Tasks.{open_of, went_of, went_wide, acts, do_system, do_task, SystemFields, TaskFields, DecodedFields, Prepared};

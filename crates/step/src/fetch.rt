@@ -1,5 +1,5 @@
 // The instruction at PC: its first halfword, the second one if that asks for it, and what they decode to.
-ghost use Rattle.core.specs.Prelude.{◌≡◌, ◌%◌, ◌^◌, ◌<◌, ◌≤◌};
+ghost use Rattle.std.specs.Prelude.{◌≡◌, ◌%◌, ◌^◌, ◌<◌, ◌≤◌};
 ghost use Rattle.word.specs.Extend.{sum24};
 ghost use Rattle.insn.specs.Coding.{reg2_of, opcode_of, reg1_of, decode_fields, decode};
 ghost use Rattle.machine.specs.Marked.{Cells, both};

@@ -1,5 +1,5 @@
 // What is never marked, each part by itself: PC, the mode bits, ECR and the requests; and how a step ends.
-ghost use Rattle.core.specs.Prelude.{◌≡◌, ◌^◌, ◌<◌};
+ghost use Rattle.std.specs.Prelude.{◌≡◌, ◌^◌, ◌<◌};
 ghost use Rattle.machine.specs.Step.{goto, plus, modes, waits, fecc, eicc};
 ghost use Rattle.step.specs.Tasks.{went_wide};
 

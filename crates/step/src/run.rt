@@ -1,5 +1,5 @@
 // A run: steps until the budget is used up or a step is refused.
-ghost use Rattle.core.specs.Prelude.{◌≡◌, ◌-◌, ◌<◌, ◌≤◌, true, false};
+ghost use Rattle.std.specs.Prelude.{◌≡◌, ◌-◌, ◌<◌, ◌≤◌, true, false};
 ghost use Rattle.machine.specs.Marked.{both};
 ghost use Rattle.machine.specs.Run.{run};
 ghost use Rattle.machine.specs.WellFormed.{WellFormed, Bytes};

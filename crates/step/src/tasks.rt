@@ -1,5 +1,5 @@
 // From instructions to tasks: the formats' operands are fetched, and what several instructions share is one task.
-ghost use Rattle.core.specs.Prelude.{◌≡◌, ℕ, true, List};
+ghost use Rattle.std.specs.Prelude.{◌≡◌, ℕ, true, List};
 ghost use Rattle.insn.specs.Coding.{in_range};
 ghost use Rattle.machine.specs.Marked.{plain, Cells, both};
 ghost use Rattle.machine.specs.Step.{exec};

@@ -1,5 +1,5 @@
 // Loads, stores and bit instructions.
-ghost use Rattle.core.specs.Prelude.{◌≡◌, ◌<◌};
+ghost use Rattle.std.specs.Prelude.{◌≡◌, ◌<◌};
 ghost use Rattle.machine.specs.Marked.{both};
 ghost use Rattle.machine.specs.Memory.{address};
 ghost use Rattle.machine.specs.Step.{after, load, store, bitwise};
