@@ -25,7 +25,7 @@
 ghost use Rattle.std.specs.Prelude.{◌≤◌};
 
 use insn::{Decoded, Encoded, decode, encode};
-use libc::STDOUT_FILENO;
+use std::io;
 
 const INSTRUCTION: u32 = 0;
 
@@ -41,16 +41,17 @@ const SECONDS: [u16; 26] = [
     0xF840, 0xFFFF,
 ];
 
-fn main() {
+fn main(rt: HostRuntime) -> io::Result<()> {
     let mut k: usize = 0;
     while k < SECONDS.len() {
-        walk(SECONDS[k]);
+        walk(&rt, SECONDS[k])?;
         k += 1;
     }
+    Ok(())
 }
 
 // All first halfwords with one second halfword.
-fn walk(second: u16) {
+fn walk(rt: &impl Print, second: u16) -> io::Result<()> {
     let mut instructions: u32 = 0;
     let mut illegal: u32 = 0;
     let mut undefined: u32 = 0;
@@ -64,7 +65,7 @@ fn walk(second: u16) {
         mismatches += one_if_same(answer, MISMATCH);
         first += 1;
     }
-    line(second, instructions, illegal, undefined, mismatches);
+    line(rt, second, instructions, illegal, undefined, mismatches)
 }
 
 fn judge(first: u16, second: u16) -> u32 {
@@ -95,16 +96,22 @@ fn one_if_same(a: u32, b: u32) -> u32
     if a == b { 1 } else { 0 }
 }
 
-fn line(second: u16, instructions: u32, illegal: u32, undefined: u32, mismatches: u32) {
-    io::print_hex(STDOUT_FILENO, second as u64, 4);
-    column(instructions);
-    column(illegal);
-    column(undefined);
-    column(mismatches);
-    io::write_all(STDOUT_FILENO, b"\n");
+fn line(
+    rt: &impl Print,
+    second: u16,
+    instructions: u32,
+    illegal: u32,
+    undefined: u32,
+    mismatches: u32,
+) -> io::Result<()> {
+    print!(rt; "{second:04x}")?;
+    column(rt, instructions)?;
+    column(rt, illegal)?;
+    column(rt, undefined)?;
+    column(rt, mismatches)?;
+    println!(rt)
 }
 
-fn column(n: u32) {
-    io::write_all(STDOUT_FILENO, b" ");
-    io::print_decimal(STDOUT_FILENO, n as u64);
+fn column(rt: &impl Print, n: u32) -> io::Result<()> {
+    print!(rt; " {n}")
 }
