@@ -23,106 +23,110 @@ mod tally;
 
 use forms::Form;
 use insn::{BitOp, Imm5Op, Imm16Op, RegOp, ShiftOp, Size, encode};
-use libc::STDOUT_FILENO;
+use std::io;
 use tally::Tally;
 
-fn main() {
-    format_1();
-    format_2();
-    format_3_and_4();
-    format_6();
-    format_7();
-    format_5_and_8();
-    format_9_and_10();
+fn main(rt: HostRuntime) -> io::Result<()> {
+    format_1(&rt)?;
+    format_2(&rt)?;
+    format_3_and_4(&rt)?;
+    format_6(&rt)?;
+    format_7(&rt)?;
+    format_5_and_8(&rt)?;
+    format_9_and_10(&rt)
 }
 
-fn format_1() {
-    line(b"MOV reg1, reg2", Form::Reg(RegOp::Mov));
-    line(b"NOT reg1, reg2", Form::Reg(RegOp::Not));
-    line(b"DIVH reg1, reg2", Form::Reg(RegOp::Divh));
-    line(b"JMP [reg1]", Form::Jmp);
-    line(b"SATSUBR reg1, reg2", Form::Reg(RegOp::Satsubr));
-    line(b"SATSUB reg1, reg2", Form::Reg(RegOp::Satsub));
-    line(b"SATADD reg1, reg2", Form::Reg(RegOp::Satadd));
-    line(b"MULH reg1, reg2", Form::Reg(RegOp::Mulh));
-    line(b"OR reg1, reg2", Form::Reg(RegOp::Or));
-    line(b"XOR reg1, reg2", Form::Reg(RegOp::Xor));
-    line(b"AND reg1, reg2", Form::Reg(RegOp::And));
-    line(b"TST reg1, reg2", Form::Reg(RegOp::Tst));
-    line(b"SUBR reg1, reg2", Form::Reg(RegOp::Subr));
-    line(b"SUB reg1, reg2", Form::Reg(RegOp::Sub));
-    line(b"ADD reg1, reg2", Form::Reg(RegOp::Add));
-    line(b"CMP reg1, reg2", Form::Reg(RegOp::Cmp));
+fn format_1(rt: &impl Print) -> io::Result<()> {
+    line(rt, b"MOV reg1, reg2", Form::Reg(RegOp::Mov))?;
+    line(rt, b"NOT reg1, reg2", Form::Reg(RegOp::Not))?;
+    line(rt, b"DIVH reg1, reg2", Form::Reg(RegOp::Divh))?;
+    line(rt, b"JMP [reg1]", Form::Jmp)?;
+    line(rt, b"SATSUBR reg1, reg2", Form::Reg(RegOp::Satsubr))?;
+    line(rt, b"SATSUB reg1, reg2", Form::Reg(RegOp::Satsub))?;
+    line(rt, b"SATADD reg1, reg2", Form::Reg(RegOp::Satadd))?;
+    line(rt, b"MULH reg1, reg2", Form::Reg(RegOp::Mulh))?;
+    line(rt, b"OR reg1, reg2", Form::Reg(RegOp::Or))?;
+    line(rt, b"XOR reg1, reg2", Form::Reg(RegOp::Xor))?;
+    line(rt, b"AND reg1, reg2", Form::Reg(RegOp::And))?;
+    line(rt, b"TST reg1, reg2", Form::Reg(RegOp::Tst))?;
+    line(rt, b"SUBR reg1, reg2", Form::Reg(RegOp::Subr))?;
+    line(rt, b"SUB reg1, reg2", Form::Reg(RegOp::Sub))?;
+    line(rt, b"ADD reg1, reg2", Form::Reg(RegOp::Add))?;
+    line(rt, b"CMP reg1, reg2", Form::Reg(RegOp::Cmp))
 }
 
-fn format_2() {
-    line(b"MOV imm5, reg2", Form::Imm5(Imm5Op::Mov5));
-    line(b"SATADD imm5, reg2", Form::Imm5(Imm5Op::Satadd5));
-    line(b"ADD imm5, reg2", Form::Imm5(Imm5Op::Add5));
-    line(b"CMP imm5, reg2", Form::Imm5(Imm5Op::Cmp5));
-    line(b"SHR imm5, reg2", Form::Imm5(Imm5Op::Shr5));
-    line(b"SAR imm5, reg2", Form::Imm5(Imm5Op::Sar5));
-    line(b"SHL imm5, reg2", Form::Imm5(Imm5Op::Shl5));
-    line(b"MULH imm5, reg2", Form::Imm5(Imm5Op::Mulh5));
+fn format_2(rt: &impl Print) -> io::Result<()> {
+    line(rt, b"MOV imm5, reg2", Form::Imm5(Imm5Op::Mov5))?;
+    line(rt, b"SATADD imm5, reg2", Form::Imm5(Imm5Op::Satadd5))?;
+    line(rt, b"ADD imm5, reg2", Form::Imm5(Imm5Op::Add5))?;
+    line(rt, b"CMP imm5, reg2", Form::Imm5(Imm5Op::Cmp5))?;
+    line(rt, b"SHR imm5, reg2", Form::Imm5(Imm5Op::Shr5))?;
+    line(rt, b"SAR imm5, reg2", Form::Imm5(Imm5Op::Sar5))?;
+    line(rt, b"SHL imm5, reg2", Form::Imm5(Imm5Op::Shl5))?;
+    line(rt, b"MULH imm5, reg2", Form::Imm5(Imm5Op::Mulh5))
 }
 
-fn format_3_and_4() {
-    line(b"SLD.B disp7[ep], reg2", Form::Sld(Size::Byte));
-    line(b"SST.B reg2, disp7[ep]", Form::Sst(Size::Byte));
-    line(b"SLD.H disp8[ep], reg2", Form::Sld(Size::Half));
-    line(b"SST.H reg2, disp8[ep]", Form::Sst(Size::Half));
-    line(b"SLD.W disp8[ep], reg2", Form::Sld(Size::Word));
-    line(b"SST.W reg2, disp8[ep]", Form::Sst(Size::Word));
-    line(b"Bcond disp9", Form::Bcond);
+fn format_3_and_4(rt: &impl Print) -> io::Result<()> {
+    line(rt, b"SLD.B disp7[ep], reg2", Form::Sld(Size::Byte))?;
+    line(rt, b"SST.B reg2, disp7[ep]", Form::Sst(Size::Byte))?;
+    line(rt, b"SLD.H disp8[ep], reg2", Form::Sld(Size::Half))?;
+    line(rt, b"SST.H reg2, disp8[ep]", Form::Sst(Size::Half))?;
+    line(rt, b"SLD.W disp8[ep], reg2", Form::Sld(Size::Word))?;
+    line(rt, b"SST.W reg2, disp8[ep]", Form::Sst(Size::Word))?;
+    line(rt, b"Bcond disp9", Form::Bcond)
 }
 
-fn format_6() {
-    line(b"ADDI imm16, reg1, reg2", Form::Imm16(Imm16Op::Addi));
-    line(b"MOVEA imm16, reg1, reg2", Form::Imm16(Imm16Op::Movea));
-    line(b"MOVHI imm16, reg1, reg2", Form::Imm16(Imm16Op::Movhi));
-    line(b"SATSUBI imm16, reg1, reg2", Form::Imm16(Imm16Op::Satsubi));
-    line(b"ORI imm16, reg1, reg2", Form::Imm16(Imm16Op::Ori));
-    line(b"XORI imm16, reg1, reg2", Form::Imm16(Imm16Op::Xori));
-    line(b"ANDI imm16, reg1, reg2", Form::Imm16(Imm16Op::Andi));
-    line(b"MULHI imm16, reg1, reg2", Form::Imm16(Imm16Op::Mulhi));
+fn format_6(rt: &impl Print) -> io::Result<()> {
+    line(rt, b"ADDI imm16, reg1, reg2", Form::Imm16(Imm16Op::Addi))?;
+    line(rt, b"MOVEA imm16, reg1, reg2", Form::Imm16(Imm16Op::Movea))?;
+    line(rt, b"MOVHI imm16, reg1, reg2", Form::Imm16(Imm16Op::Movhi))?;
+    line(
+        rt,
+        b"SATSUBI imm16, reg1, reg2",
+        Form::Imm16(Imm16Op::Satsubi),
+    )?;
+    line(rt, b"ORI imm16, reg1, reg2", Form::Imm16(Imm16Op::Ori))?;
+    line(rt, b"XORI imm16, reg1, reg2", Form::Imm16(Imm16Op::Xori))?;
+    line(rt, b"ANDI imm16, reg1, reg2", Form::Imm16(Imm16Op::Andi))?;
+    line(rt, b"MULHI imm16, reg1, reg2", Form::Imm16(Imm16Op::Mulhi))
 }
 
-fn format_7() {
-    line(b"LD.B disp16[reg1], reg2", Form::Ld(Size::Byte));
-    line(b"LD.H disp16[reg1], reg2", Form::Ld(Size::Half));
-    line(b"LD.W disp16[reg1], reg2", Form::Ld(Size::Word));
-    line(b"ST.B reg2, disp16[reg1]", Form::St(Size::Byte));
-    line(b"ST.H reg2, disp16[reg1]", Form::St(Size::Half));
-    line(b"ST.W reg2, disp16[reg1]", Form::St(Size::Word));
+fn format_7(rt: &impl Print) -> io::Result<()> {
+    line(rt, b"LD.B disp16[reg1], reg2", Form::Ld(Size::Byte))?;
+    line(rt, b"LD.H disp16[reg1], reg2", Form::Ld(Size::Half))?;
+    line(rt, b"LD.W disp16[reg1], reg2", Form::Ld(Size::Word))?;
+    line(rt, b"ST.B reg2, disp16[reg1]", Form::St(Size::Byte))?;
+    line(rt, b"ST.H reg2, disp16[reg1]", Form::St(Size::Half))?;
+    line(rt, b"ST.W reg2, disp16[reg1]", Form::St(Size::Word))
 }
 
-fn format_5_and_8() {
-    line(b"JARL disp22, reg2", Form::Jarl);
-    line(b"SET1 bit#3, disp16[reg1]", Form::Bit(BitOp::Set1));
-    line(b"NOT1 bit#3, disp16[reg1]", Form::Bit(BitOp::Not1));
-    line(b"CLR1 bit#3, disp16[reg1]", Form::Bit(BitOp::Clr1));
-    line(b"TST1 bit#3, disp16[reg1]", Form::Bit(BitOp::Tst1));
+fn format_5_and_8(rt: &impl Print) -> io::Result<()> {
+    line(rt, b"JARL disp22, reg2", Form::Jarl)?;
+    line(rt, b"SET1 bit#3, disp16[reg1]", Form::Bit(BitOp::Set1))?;
+    line(rt, b"NOT1 bit#3, disp16[reg1]", Form::Bit(BitOp::Not1))?;
+    line(rt, b"CLR1 bit#3, disp16[reg1]", Form::Bit(BitOp::Clr1))?;
+    line(rt, b"TST1 bit#3, disp16[reg1]", Form::Bit(BitOp::Tst1))
 }
 
-fn format_9_and_10() {
-    line(b"SETF cccc, reg2", Form::Setf);
-    line(b"LDSR reg2, regID", Form::Ldsr);
-    line(b"STSR regID, reg2", Form::Stsr);
-    line(b"SHR reg1, reg2", Form::Shift(ShiftOp::Shr));
-    line(b"SAR reg1, reg2", Form::Shift(ShiftOp::Sar));
-    line(b"SHL reg1, reg2", Form::Shift(ShiftOp::Shl));
-    line(b"TRAP vector", Form::Trap);
-    line(b"HALT", Form::Halt);
-    line(b"RETI", Form::Reti);
-    line(b"DI", Form::Di);
-    line(b"EI", Form::Ei);
+fn format_9_and_10(rt: &impl Print) -> io::Result<()> {
+    line(rt, b"SETF cccc, reg2", Form::Setf)?;
+    line(rt, b"LDSR reg2, regID", Form::Ldsr)?;
+    line(rt, b"STSR regID, reg2", Form::Stsr)?;
+    line(rt, b"SHR reg1, reg2", Form::Shift(ShiftOp::Shr))?;
+    line(rt, b"SAR reg1, reg2", Form::Shift(ShiftOp::Sar))?;
+    line(rt, b"SHL reg1, reg2", Form::Shift(ShiftOp::Shl))?;
+    line(rt, b"TRAP vector", Form::Trap)?;
+    line(rt, b"HALT", Form::Halt)?;
+    line(rt, b"RETI", Form::Reti)?;
+    line(rt, b"DI", Form::Di)?;
+    line(rt, b"EI", Form::Ei)
 }
 
 // A line for one operation.
-fn line(name: &[u8], form: Form) {
-    io::write_all(STDOUT_FILENO, name);
-    io::write_all(STDOUT_FILENO, b":");
-    tally::print(walk(form, forms::size(form)));
+fn line(rt: &impl Print, name: &[u8], form: Form) -> io::Result<()> {
+    rt.write_all(name)?;
+    print!(rt; ":")?;
+    tally::print(rt, walk(form, forms::size(form)))
 }
 
 // All instructions of a form.

@@ -1,6 +1,6 @@
 // What the encoder answered, counted, and a sum that tells one list of answers from another.
 use insn::Encoded;
-use libc::STDOUT_FILENO;
+use std::io;
 
 #[derive(Clone, Copy)]
 pub(crate) struct Tally {
@@ -57,16 +57,13 @@ fn mix(sum: u32, n: u32) -> u32 {
     ((sum as u64 * 1664525 + n as u64) % 0x100000000) as u32
 }
 
-pub(crate) fn print(t: Tally) {
-    column(t.one);
-    column(t.two);
-    column(t.field);
-    io::write_all(STDOUT_FILENO, b" ");
-    io::print_hex(STDOUT_FILENO, t.sum as u64, 8);
-    io::write_all(STDOUT_FILENO, b"\n");
+pub(crate) fn print(rt: &impl Print, t: Tally) -> io::Result<()> {
+    column(rt, t.one)?;
+    column(rt, t.two)?;
+    column(rt, t.field)?;
+    println!(rt; " {:08x}", t.sum)
 }
 
-fn column(n: u32) {
-    io::write_all(STDOUT_FILENO, b" ");
-    io::print_decimal(STDOUT_FILENO, n as u64);
+fn column(rt: &impl Print, n: u32) -> io::Result<()> {
+    print!(rt; " {n}")
 }
