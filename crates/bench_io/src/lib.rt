@@ -6,7 +6,8 @@ ghost use Rattle.std.specs.Prelude.{length};
 ghost use Rattle.bench_io.specs.Reading.{Within};
 
 use bench_line::{IMAGE, LONGEST};
-use libc::{STDERR_FILENO, STDIN_FILENO, STDOUT_FILENO};
+use std::io;
+use std::io::Read;
 
 // One byte more than an image has, so that a longer input is told from a full one.
 const ROOM: usize = IMAGE + 1;
@@ -19,23 +20,22 @@ enum Input {
 }
 
 // One read. It may bring fewer bytes than there is room for, and brings none at the end of the input.
-fn more(room: &mut [u8]) -> Input
+fn more(reader: &mut impl Read, room: &mut [u8]) -> Input
     ensures { Within (length room.new) result }
 {
-    let got = libc::read(STDIN_FILENO, room);
-    if got < 0 {
-        return Input::Failed;
+    match reader.read(room) {
+        Ok(n) => Input::Read(n),
+        Err(_) => Input::Failed,
     }
-    Input::Read(io::count(got, room))
 }
 
 // Reads to the end of the input, or until the room is full.
-fn read(room: &mut [u8]) -> Input
+fn read(reader: &mut impl Read, room: &mut [u8]) -> Input
     ensures { Within (length room.new) result }
 {
     let mut at: usize = 0;
     while at < room.len() {
-        let got = more(&mut room[at..]);
+        let got = more(reader, &mut room[at..]);
         let Input::Read(n) = got else {
             return Input::Failed;
         };
@@ -48,22 +48,22 @@ fn read(room: &mut [u8]) -> Input
 }
 
 // Writes the line of an input.
-fn answer(input: &[u8]) {
+fn answer(rt: &(impl Print + Eprint), input: &[u8]) {
     let mut out = [0u8; LONGEST];
     let n = bench_line::line(input, &mut out);
-    if !io::write_all(STDOUT_FILENO, &out[..n]) {
-        io::write_all(STDERR_FILENO, b"bench: the line cannot be written\n");
+    if rt.write_all(&out[..n]).is_err() {
+        let _ = eprintln!(rt; "bench: the line cannot be written");
     }
 }
 
 // An input that cannot be read to its end has no line.
-pub fn bench() {
+pub fn bench(rt: &(impl io::Input + Print + Eprint)) {
     let mut room = [0u8; ROOM];
-    let input = read(&mut room);
+    let input = read(&mut rt.reader(), &mut room);
     match input {
-        Input::Read(n) => answer(&room[..n]),
+        Input::Read(n) => answer(rt, &room[..n]),
         Input::Failed => {
-            io::write_all(STDERR_FILENO, b"bench: the input cannot be read\n");
+            let _ = eprintln!(rt; "bench: the input cannot be read");
         }
     }
 }
