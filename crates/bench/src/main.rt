@@ -9,6 +9,6 @@
 // CY and Z: 20H + 8 + 1.
 #![tactic(auto)]
 
-fn main() {
-    bench_io::bench();
+fn main(rt: HostRuntime) {
+    bench_io::bench(&rt);
 }

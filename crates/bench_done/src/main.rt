@@ -8,6 +8,6 @@
 // Steps: MOVEA, 499 rounds of ADD and BNZ, HALT: 1 + 998 + 1. PC is behind HALT. PSW: ID of reset, and CY and Z of the last ADD.
 #![tactic(auto)]
 
-fn main() {
-    bench_io::bench();
+fn main(rt: HostRuntime) {
+    bench_io::bench(&rt);
 }

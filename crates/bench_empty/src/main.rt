@@ -2,6 +2,6 @@
 // up at 2,000 = 7D0H: DONE.
 #![tactic(auto)]
 
-fn main() {
-    bench_io::bench();
+fn main(rt: HostRuntime) {
+    bench_io::bench(&rt);
 }

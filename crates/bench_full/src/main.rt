@@ -8,6 +8,6 @@
 // Then nothing is there to fetch: NOFETCH at 1000H, after three steps. PSW: ID of reset, and S.
 #![tactic(auto)]
 
-fn main() {
-    bench_io::bench();
+fn main(rt: HostRuntime) {
+    bench_io::bench(&rt);
 }

@@ -2,6 +2,6 @@
 // bench that left the last byte out would print another line.
 #![tactic(auto)]
 
-fn main() {
-    bench_io::bench();
+fn main(rt: HostRuntime) {
+    bench_io::bench(&rt);
 }

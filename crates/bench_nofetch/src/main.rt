@@ -7,6 +7,6 @@
 // Three steps, and none of them touches a flag.
 #![tactic(auto)]
 
-fn main() {
-    bench_io::bench();
+fn main(rt: HostRuntime) {
+    bench_io::bench(&rt);
 }

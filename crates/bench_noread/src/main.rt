@@ -4,6 +4,6 @@
 //   2  21 17 01 00   LD.W 0[r1], r2: FFFFFFFFH, so FFFFFCH
 #![tactic(auto)]
 
-fn main() {
-    bench_io::bench();
+fn main(rt: HostRuntime) {
+    bench_io::bench(&rt);
 }

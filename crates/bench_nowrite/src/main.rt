@@ -4,6 +4,6 @@
 //   4  40 0F 00 10   ST.B r1, 1000H[r0]
 #![tactic(auto)]
 
-fn main() {
-    bench_io::bench();
+fn main(rt: HostRuntime) {
+    bench_io::bench(&rt);
 }

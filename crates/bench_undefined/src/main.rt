@@ -4,6 +4,6 @@
 //   2  60 08   JMP with a reg2 field that is not 0
 #![tactic(auto)]
 
-fn main() {
-    bench_io::bench();
+fn main(rt: HostRuntime) {
+    bench_io::bench(&rt);
 }
