@@ -19,9 +19,9 @@ mod maps;
 mod memory;
 mod seen;
 
-use libc::STDOUT_FILENO;
 use maps::{MAPS, VALUES, WORDS};
 use seen::Seen;
+use std::io;
 use v850::entry;
 
 // What a block is filled with.
@@ -34,17 +34,18 @@ const MEMORIES: u32 = 7;
 
 const REGIONS: u32 = 6;
 
-fn main() {
+fn main(rt: HostRuntime) -> io::Result<()> {
     let mut m = memory::memory();
     let mut n: u32 = 0;
     while n < MAPS * WORDS {
-        line(n / WORDS, n % WORDS, &mut m);
+        line(&rt, n / WORDS, n % WORDS, &mut m)?;
         n += 1;
     }
+    Ok(())
 }
 
 // One word of one map, changed to each value, in blocks of zeros, whose state is good, and of ones, whose state is bad.
-fn line(map: u32, word: u32, m: &mut [u8])
+fn line(rt: &impl Print, map: u32, word: u32, m: &mut [u8]) -> io::Result<()>
     requires { length m.old ≡ 65537 }
 {
     let mut s = seen::none();
@@ -54,8 +55,8 @@ fn line(map: u32, word: u32, m: &mut [u8])
         s = views(s, &b, m);
         v += 1;
     }
-    name(map, word);
-    seen::print(s);
+    name(rt, map, word)?;
+    seen::print(rt, s)
 }
 
 fn fill(n: u32) -> u8 {
@@ -113,19 +114,16 @@ fn region(n: u32) -> u32 {
     if n == 5 { 0xFFFFFFFF } else { n }
 }
 
-fn name(map: u32, word: u32) {
-    io::write_all(STDOUT_FILENO, b"map ");
-    io::print_decimal(STDOUT_FILENO, map as u64);
-    io::write_all(STDOUT_FILENO, b" region ");
-    io::print_decimal(STDOUT_FILENO, (word / 4) as u64);
-    field(word % 4);
+fn name(rt: &impl Print, map: u32, word: u32) -> io::Result<()> {
+    print!(rt; "map {map} region {}", word / 4)?;
+    field(rt, word % 4)
 }
 
-fn field(n: u32) {
+fn field(rt: &impl Print, n: u32) -> io::Result<()> {
     match n {
-        0 => io::write_all(STDOUT_FILENO, b" base:"),
-        1 => io::write_all(STDOUT_FILENO, b" length:"),
-        2 => io::write_all(STDOUT_FILENO, b" offset:"),
-        _ => io::write_all(STDOUT_FILENO, b" rights:"),
-    };
+        0 => print!(rt; " base:"),
+        1 => print!(rt; " length:"),
+        2 => print!(rt; " offset:"),
+        _ => print!(rt; " rights:"),
+    }
 }

@@ -1,7 +1,7 @@
 // The parts that were handed out: how many, and a sum that tells one list of them from another.
 ghost use Rattle.std.specs.Prelude.{◌+◌, ◌≤◌, length};
 
-use libc::STDOUT_FILENO;
+use std::io;
 
 #[derive(Clone, Copy)]
 pub(crate) struct Seen {
@@ -48,10 +48,6 @@ fn mix(sum: u32, n: u32) -> u32 {
     ((sum as u64 * 1664525 + n as u64) % 0x100000000) as u32
 }
 
-pub(crate) fn print(s: Seen) {
-    io::write_all(STDOUT_FILENO, b" ");
-    io::print_decimal(STDOUT_FILENO, s.parts as u64);
-    io::write_all(STDOUT_FILENO, b" ");
-    io::print_hex(STDOUT_FILENO, s.sum as u64, 8);
-    io::write_all(STDOUT_FILENO, b"\n");
+pub(crate) fn print(rt: &impl Print, s: Seen) -> io::Result<()> {
+    println!(rt; " {} {:08x}", s.parts, s.sum)
 }
