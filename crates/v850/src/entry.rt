@@ -53,8 +53,7 @@ fn number(a: Answer) -> u32
 
 // The run: the checks SIZE, MAP and STATE in this order, then steps until the budget is used up or one is refused. The block is
 // taken apart once and put together once, and nothing here walks the memory or the marks.
-#[unsafe(no_mangle)]
-pub extern "C" fn v850_run(
+pub fn v850_run(
     block: &mut [u8],
     memory: &mut [u8],
     marks: &mut [u8],
@@ -97,8 +96,7 @@ pub extern "C" fn v850_run(
 }
 
 // Reset: the map stays.
-#[unsafe(no_mangle)]
-pub extern "C" fn v850_reset(block: &mut [u8]) -> u32
+pub fn v850_reset(block: &mut [u8]) -> u32
     ensures { record { answer = result; block = block.new } ≡ reset block.old }
 {
     if block.len() != BYTES {
