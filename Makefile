@@ -22,8 +22,10 @@ library:
 	@test -f $(LIBRARY)
 else
 LIBRARY := $(CURDIR)/target/staticlib/libv850.a
+# The crate that C links is v850_c; the archive keeps the library's name.
 library:
-	@rt staticlib v850 >&2
+	@cd crates/v850_c && rt lib >&2
+	@install -D -m 644 crates/v850_c/out/libv850_c.a $(LIBRARY)
 endif
 
 .PHONY: all library setup header compare walks example readme installed teeth speed bench install clean run test
@@ -93,7 +95,7 @@ install: library
 	sed 's|@PREFIX@|$(PREFIX)|' v850.pc.in >$(DESTDIR)$(PREFIX)/lib/pkgconfig/v850.pc
 
 clean:
-	rm -rf target
+	rm -rf target crates/*/out
 
 # The main job: the bench program on document 01's sample.
 run:
@@ -107,4 +109,4 @@ test:
 	@$(SUB) -s -C tests/second test
 	@$(SUB) -C tests/compare self
 	@$(SUB) compare walks example
-	@rt ci
+	@tools/gate
