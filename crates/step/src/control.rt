@@ -5,7 +5,7 @@ ghost use Rattle.machine.specs.Psw.{put_reg, condition, sys, bits, put_psw_flags
 ghost use Rattle.machine.specs.Step.{after, reveal, next, plus, modes, save_pc, save_psw, jmp, bcond, jarl, ldsr, system, exception, trap, illegal, return, reti, nmi_accepted, code_accepted, take_nmi, take_code};
 ghost use Rattle.step.specs.Tasks.{open_of, went_of, went_wide};
 
-use crate::{Out, Packed, Wide, core, parts};
+use crate::{Out, Packed, Wide, parts, unmarked};
 use machine::{Open, Tv};
 use state::{CELLS, cells, psw};
 use word::extend;
@@ -33,9 +33,9 @@ pub fn jmp(reg1: u32, o: Packed, cells: &[u32; CELLS], tags: &[u8; CELLS]) -> Ou
 {
     let a = cells::reg(cells, tags, reg1);
     if a.mark {
-        return core::leak(o);
+        return unmarked::leak(o);
     }
-    core::goto(a.val % 0x1000000 / 2 * 2, o)
+    unmarked::goto(a.val % 0x1000000 / 2 * 2, o)
 }
 
 // Bcond: the displacement counts from the instruction's own address.
@@ -44,12 +44,12 @@ pub fn bcond(cond: u32, disp: u32, o: Packed, cells: &[u32; CELLS], tags: &[u8; 
 {
     let t = psw::condition(cond, cells, tags);
     if t.mark {
-        return core::leak(o);
+        return unmarked::leak(o);
     }
     if t.val == 0 {
-        return core::plus(2, o);
+        return unmarked::plus(2, o);
     }
-    core::plus(disp, o)
+    unmarked::plus(disp, o)
 }
 
 // JARL: the link is the next PC.
@@ -68,11 +68,11 @@ pub fn jarl(
         tags,
         reg2,
         Tv {
-            val: extend::sum24(core::pc(o), 4),
+            val: extend::sum24(unmarked::pc(o), 4),
             mark: false,
         },
     );
-    core::plus(disp, o)
+    unmarked::plus(disp, o)
 }
 
 // SETF.
@@ -88,7 +88,7 @@ pub fn setf(
 {
     let t = psw::condition(cond, &*cells, &*tags);
     cells::put_reg(cells, tags, reg2, t);
-    core::plus(4, o)
+    unmarked::plus(4, o)
 }
 
 // LDSR to PSW: its bits choose whether requests are accepted, so a marked value is refused. One that leaves NP, EP and ID as they are is
@@ -97,20 +97,20 @@ fn load_psw(v: Tv, o: Packed, cells: &mut [u32; CELLS], tags: &mut [u8; CELLS]) 
     ensures { (m : Cells) → after (went_of o result) (both cells.new tags.new) m ≡ reveal (open_of o) (both cells.old tags.old) m v (λ w. next (plus 4 (modes (w / 2 ^ 7 % 2) (w / 2 ^ 6 % 2) (w / 2 ^ 5 % 2) (open_of o))) (put_psw_flags (bits w 0) (both cells.old tags.old)) m) }
 {
     if v.mark {
-        return core::leak(o);
+        return unmarked::leak(o);
     }
     let w = v.val;
     psw::put_flags(w, 0, cells, tags);
-    if core::mode_bits(o) == w / psw::ID % 8 {
-        return core::plus(4, o);
+    if unmarked::mode_bits(o) == w / psw::ID % 8 {
+        return unmarked::plus(4, o);
     }
     let n = parts::modes(
         w / psw::NP % 2,
         w / psw::EP % 2,
         w / psw::ID % 2,
-        core::unpack(o),
+        unmarked::unpack(o),
     );
-    core::settle(parts::next(parts::plus(4, n)), o)
+    unmarked::settle(parts::next(parts::plus(4, n)), o)
 }
 
 // LDSR to the saved PC in system register n.
@@ -143,19 +143,19 @@ pub fn ldsr(
     match regid {
         0 => {
             load_pc(EIPC, v, cells, tags);
-            core::plus(4, o)
+            unmarked::plus(4, o)
         }
         1 => {
             psw::put_spread(sys(EIPSW), v, cells, tags);
-            core::plus(4, o)
+            unmarked::plus(4, o)
         }
         2 => {
             load_pc(FEPC, v, cells, tags);
-            core::plus(4, o)
+            unmarked::plus(4, o)
         }
         3 => {
             psw::put_spread(sys(FEPSW), v, cells, tags);
-            core::plus(4, o)
+            unmarked::plus(4, o)
         }
         _ => load_psw(v, o, cells, tags),
     }
@@ -188,9 +188,9 @@ pub fn stsr(
     requires { reg2 < 32 }
     ensures { (m : Cells) → after (went_of o result) (both cells.new tags.new) m ≡ next (plus 4 (open_of o)) (put_reg reg2 (system regid (open_of o) (both cells.old tags.old)) (both cells.old tags.old)) m }
 {
-    let v = system_value(regid, core::unpack(o), &*cells, &*tags);
+    let v = system_value(regid, unmarked::unpack(o), &*cells, &*tags);
     cells::put_reg(cells, tags, reg2, v);
-    core::plus(4, o)
+    unmarked::plus(4, o)
 }
 
 // A PC and PSW to the saved registers pc and psw.

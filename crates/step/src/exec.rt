@@ -4,7 +4,7 @@ ghost use Rattle.machine.specs.Marked.{Cells, both};
 ghost use Rattle.machine.specs.Step.{after, execute, instruction, step};
 ghost use Rattle.step.specs.Tasks.{open_of, went_of, went_wide, acts, do_system, do_task, SystemFields, TaskFields, DecodedFields, Prepared};
 
-use crate::{Out, Packed, System, Task, Wide, control, core, fetch, parts, tasks, transfer};
+use crate::{Out, Packed, System, Task, Wide, control, fetch, parts, tasks, transfer, unmarked};
 use insn::{Decoded, Size};
 use machine::{Answer, Open};
 use state::{CELLS, MAP, SIZES, operations};
@@ -45,7 +45,7 @@ fn perform(
             len,
         } => {
             operations::operate(op, x, y, target, cells, tags);
-            core::plus(len, o)
+            unmarked::plus(len, o)
         }
         Task::Load {
             size,
@@ -80,8 +80,8 @@ fn perform(
         Task::Ldsr { reg2, regid } => control::ldsr(reg2, regid, o, cells, tags),
         Task::Stsr { regid, reg2 } => control::stsr(regid, reg2, o, cells, tags),
         Task::System(s) => {
-            let w = system(s, core::unpack(o), cells, tags);
-            core::settle(w, o)
+            let w = system(s, unmarked::unpack(o), cells, tags);
+            unmarked::settle(w, o)
         },
     }
 }
@@ -106,10 +106,10 @@ fn execute(
             perform(t, map, sizes, o, cells, tags, mem, marks)
         }
         Decoded::Illegal => {
-            let w = control::illegal(core::unpack(o), cells, tags);
-            core::settle(w, o)
+            let w = control::illegal(unmarked::unpack(o), cells, tags);
+            unmarked::settle(w, o)
         }
-        Decoded::Undefined => core::refuse(Answer::Undefined, core::pc(o), o),
+        Decoded::Undefined => unmarked::refuse(Answer::Undefined, unmarked::pc(o), o),
     }
 }
 
@@ -126,12 +126,12 @@ pub fn instruction(
     requires { Prepared map.now sizes.now mem.old marks.old × ((open_of o).pc % 2 ≡ 0) }
     ensures { after (went_of o result) (both cells.new tags.new) (both mem.new marks.new) ≡ instruction map.now (open_of o) (both cells.old tags.old) (both mem.old marks.old) }
 {
-    let f = fetch::fetch(map, sizes, core::pc(o), &*mem, &*marks);
+    let f = fetch::fetch(map, sizes, unmarked::pc(o), &*mem, &*marks);
     let answer = f.answer;
     let decoded = f.decoded;
     match answer {
         Answer::Done => execute(decoded, map, sizes, o, cells, tags, mem, marks),
-        _ => core::refuse(answer, f.place, o),
+        _ => unmarked::refuse(answer, f.place, o),
     }
 }
 
@@ -139,7 +139,7 @@ pub fn instruction(
 pub fn acts(o: Packed) -> bool
     ensures { result ≡ acts (open_of o) }
 {
-    let w = core::unpack(o);
+    let w = unmarked::unpack(o);
     control::nmi_accepted(w) | (control::code_accepted(w) | (w.halted == 1))
 }
 
@@ -148,12 +148,12 @@ pub fn attend(o: Packed, cells: &mut [u32; CELLS], tags: &mut [u8; CELLS]) -> Ou
     requires { acts (open_of o) ≡ true }
     ensures { (map : List ℕ) (m : Cells) → after (went_of o result) (both cells.new tags.new) m ≡ step map (open_of o) (both cells.old tags.old) m }
 {
-    let w = core::unpack(o);
+    let w = unmarked::unpack(o);
     if control::nmi_accepted(w) {
-        return core::settle(control::take_nmi(w, cells, tags), o);
+        return unmarked::settle(control::take_nmi(w, cells, tags), o);
     }
     if control::code_accepted(w) {
-        return core::settle(control::take_code(w, cells, tags), o);
+        return unmarked::settle(control::take_code(w, cells, tags), o);
     }
-    core::refuse(Answer::Asleep, 0, o)
+    unmarked::refuse(Answer::Asleep, 0, o)
 }

@@ -2,13 +2,13 @@
 #![tactic(auto)]
 
 pub mod control;
-pub mod core;
 pub mod exec;
 pub mod fetch;
 pub mod parts;
 pub mod run;
 pub mod tasks;
 pub mod transfer;
+pub mod unmarked;
 
 use insn::{BitOp, Decoded, Size};
 use machine::{Answer, Op, Open, Tv};

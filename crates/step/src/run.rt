@@ -5,7 +5,7 @@ ghost use Rattle.machine.specs.Run.{run};
 ghost use Rattle.machine.specs.WellFormed.{WellFormed, Bytes};
 ghost use Rattle.step.specs.Tasks.{open_of, acts, goes_on, goes_from, Ready, Prepared};
 
-use crate::{Packed, Reached, core, exec};
+use crate::{Packed, Reached, exec, unmarked};
 use machine::{Answer, Open, Ran};
 use state::{CELLS, MAP, SIZES, regions};
 
@@ -27,7 +27,7 @@ fn ended(answer: Answer, place: u32, steps: u32, o: Packed) -> Ran
         answer: answer,
         place: place,
         steps: steps,
-        core: core::unpack(o),
+        core: unmarked::unpack(o),
     }
 }
 
@@ -59,7 +59,7 @@ fn instructions(
         match answer {
             Answer::Done => {
                 calm = w.calm;
-                o = core::after(o, w);
+                o = unmarked::after(o, w);
                 n += 1;
             }
             _ => return reached(answer, w.place, n, o),
@@ -81,7 +81,7 @@ pub fn run(
     ensures { record { ran = result; cells = both cells.new tags.new; mem = both mem.new marks.new } ≡ run budget 0 map.now start (both cells.old tags.old) (both mem.old marks.old) }
 {
     let sizes = regions::sizes(map);
-    let mut o = core::pack(start);
+    let mut o = unmarked::pack(start);
     let mut n: u32 = 0;
     while n < budget {
         if exec::acts(o) {
@@ -89,7 +89,7 @@ pub fn run(
             let answer = w.answer;
             match answer {
                 Answer::Done => {
-                    o = core::after(o, w);
+                    o = unmarked::after(o, w);
                     n += 1;
                 }
                 _ => return ended(answer, w.place, n, o),

@@ -5,7 +5,7 @@ ghost use Rattle.machine.specs.Memory.{address};
 ghost use Rattle.machine.specs.Step.{after, load, store, bitwise};
 ghost use Rattle.step.specs.Tasks.{open_of, went_of, Prepared};
 
-use crate::{Out, Packed, core};
+use crate::{Out, Packed, unmarked};
 use insn::{BitOp, Size};
 use machine::{Answer, Spot};
 use state::{CELLS, MAP, SIZES, cells, memory, psw, regions};
@@ -38,16 +38,16 @@ fn load_of(
 {
     let b = cells::reg(&*cells, &*tags, base);
     if b.mark {
-        return core::leak(o);
+        return unmarked::leak(o);
     }
     let a = address(size, b.val, disp);
     match regions::find(map, sizes, regions::TO_READ, a) {
         Spot::At(p) => {
             let v = memory::load(size, mem, marks, p);
             cells::put_reg(cells, tags, target, v);
-            core::plus(len, o)
+            unmarked::plus(len, o)
         }
-        Spot::Nowhere => core::refuse(Answer::NoRead, a, o),
+        Spot::Nowhere => unmarked::refuse(Answer::NoRead, a, o),
     }
 }
 
@@ -135,16 +135,16 @@ fn store_of(
 {
     let b = cells::reg(cells, tags, base);
     if b.mark {
-        return core::leak(o);
+        return unmarked::leak(o);
     }
     let a = address(size, b.val, disp);
     match regions::find(map, sizes, regions::TO_WRITE, a) {
         Spot::At(p) => {
             let v = cells::reg(cells, tags, source);
             memory::store(size, mem, marks, p, v);
-            core::plus(len, o)
+            unmarked::plus(len, o)
         }
-        Spot::Nowhere => core::refuse(Answer::NoWrite, a, o),
+        Spot::Nowhere => unmarked::refuse(Answer::NoWrite, a, o),
     }
 }
 
@@ -230,7 +230,7 @@ pub fn bitwise(
 {
     let b = cells::reg(&*cells, &*tags, base);
     if b.mark {
-        return core::leak(o);
+        return unmarked::leak(o);
     }
     let a = address(Size::Byte, b.val, disp);
     match regions::find(map, sizes, regions::TO_READ, a) {
@@ -238,17 +238,17 @@ pub fn bitwise(
             let t = memory::tested(bit, &*mem, marks, p);
             if memory::only_tests(op) {
                 psw::set_z(t.z, t.mark, cells, tags);
-                return core::plus(4, o);
+                return unmarked::plus(4, o);
             }
             match regions::find(map, sizes, regions::TO_WRITE, a) {
                 Spot::At(_) => {
                     psw::set_z(t.z, t.mark, cells, tags);
                     memory::change(op, bit, mem, p);
-                    core::plus(4, o)
+                    unmarked::plus(4, o)
                 }
-                Spot::Nowhere => core::refuse(Answer::NoWrite, a, o),
+                Spot::Nowhere => unmarked::refuse(Answer::NoWrite, a, o),
             }
         }
-        Spot::Nowhere => core::refuse(Answer::NoRead, a, o),
+        Spot::Nowhere => unmarked::refuse(Answer::NoRead, a, o),
     }
 }

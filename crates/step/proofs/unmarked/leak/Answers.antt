@@ -1,6 +1,6 @@
 -- A refusal at PC.
 use mathlib.Core.Path.{◌∙◌}
-use Rattle.step.proofs.core.leak.Goals as goal
+use Rattle.step.proofs.unmarked.leak.Goals as goal
 
 pub returns : goal.returns
 returns c = c.refuse.ensures ∙ rw c.pc.ensures

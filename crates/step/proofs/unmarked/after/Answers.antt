@@ -1,4 +1,4 @@
-use Rattle.step.proofs.core.after.Goals as goal
+use Rattle.step.proofs.unmarked.after.Goals as goal
 
 -- A calm step takes its PC; another takes all.
 

@@ -1,7 +1,7 @@
 -- Each part is taken out of its bits.
 use mathlib.Core.Path.{refl}
 use Rattle.step.specs.CoreLaws.{taken}
-use Rattle.step.proofs.core.unpack.Goals as goal
+use Rattle.step.proofs.unmarked.unpack.Goals as goal
 
 pub returns : goal.returns
 returns c =

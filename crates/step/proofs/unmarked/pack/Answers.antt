@@ -2,7 +2,7 @@
 use mathlib.Core.Path.{refl}
 use native.Mathlib.Omega.{arith}
 use Rattle.step.specs.CoreLaws.{closed}
-use Rattle.step.proofs.core.pack.Goals as goal
+use Rattle.step.proofs.unmarked.pack.Goals as goal
 
 pub returns : goal.returns
 returns c =

@@ -2,7 +2,7 @@
 use mathlib.Core.Path.{ap, ◌∙◌}
 use Rattle.step.specs.Tasks.{goes_on}
 use Rattle.step.proofs.Answers.{stops}
-use Rattle.step.proofs.core.settle.Goals as goal
+use Rattle.step.proofs.unmarked.settle.Goals as goal
 
 pub pack-requires : goal.pack-requires
 pack-requires c = c.requires (ap goes_on c.in-Done.is)
