@@ -1,4 +1,4 @@
-// Standard input to standard output: reads the input, and writes its line. What the line is, `bench_line` says and proves; no
+// From a reader to standard output: reads the input, and writes its line. What the line is, `bench_line` says and proves; no
 // contract can say what is read or written.
 #![tactic(auto)]
 
@@ -6,7 +6,6 @@ ghost use Rattle.std.specs.Prelude.{length};
 ghost use Rattle.bench_io.specs.Reading.{Within};
 
 use bench_line::{IMAGE, LONGEST};
-use std::io;
 use std::io::Read;
 
 // One byte more than an image has, so that a longer input is told from a full one.
@@ -57,9 +56,9 @@ fn answer(rt: &(impl Print + Eprint), input: &[u8]) {
 }
 
 // An input that cannot be read to its end has no line.
-pub fn bench(rt: &(impl io::Input + Print + Eprint)) {
+pub fn bench(rt: &(impl Print + Eprint), reader: &mut impl Read) {
     let mut room = [0u8; ROOM];
-    let input = read(&mut rt.reader(), &mut room);
+    let input = read(reader, &mut room);
     match input {
         Input::Read(n) => answer(rt, &room[..n]),
         Input::Failed => {

@@ -5,5 +5,5 @@
 #![tactic(auto)]
 
 fn main(rt: HostRuntime) {
-    bench_io::bench(&rt);
+    bench_io::bench(&rt, &mut rt.stdin());
 }
