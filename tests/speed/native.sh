@@ -1,7 +1,8 @@
 #!/usr/bin/env bash
 # On a processor other than x86-64: the times of the library's code there, not emulated. The toolchain makes x86-64 code alone, so what it
 # hands to LLVM is kept, optimized as for x86-64, and only then turned into code for this processor. That is not the product.
-# Called by 'make speed', which sets BUILD, CFLAGS and THEIRS.
+# Called by 'make speed', which sets BUILD, CFLAGS and THEIRS. It wants a kit that runs on that processor, as an older one did; the present one
+# runs on x86-64 alone, so this has not been tried with it.
 set -euo pipefail
 export LC_ALL=C
 images="alu mem branch mulsat"
@@ -26,7 +27,7 @@ for folder in . on "on/$machine" "$tools" "$tools/bin"; do
         [ -e "$BUILD/kit/$folder/${file##*/}" ] || ln -s "$file" "$BUILD/kit/$folder/"
     done
 done
-(cd ../.. && RATTLE_HOME="$BUILD/kit" rt staticlib v850 >&2)
+(cd ../../crates/v850_c && RATTLE_HOME="$BUILD/kit" rt lib >&2)
 
 # ---- Optimized for x86-64, then without a word of x86-64.
 
