@@ -8,7 +8,6 @@ pub mod Step
 pub mod Run
 pub mod WellFormed
 pub mod InvariantLaws
-pub mod Invariants
 pub mod Alike
 pub mod AlikeLaws
 pub mod Secrecy

@@ -10,7 +10,7 @@ use Rattle.machine.specs.Marked.{Cells, both}
 use Rattle.machine.specs.Step.{Outcome, after, next, refuse, nmi_accepted, code_accepted, step}
 use Rattle.machine.specs.Run.{Ended, ended, carry, run}
 use Rattle.machine.specs.WellFormed.{WellFormed, Bytes}
-use Rattle.machine.specs.Invariants.{step_well_formed}
+use Rattle.machine.proofs.Invariants.{step_well_formed}
 use Rattle.step.specs.declared.Packed.{Packed}
 use Rattle.step.specs.declared.Out.{Out}
 use Rattle.step.specs.Tasks.{open_of, acts, goes_on, next_of, went_of, Prepared}

@@ -1,1 +1,3 @@
 pub mod Fill
+pub mod CallLaws
+pub mod Answers

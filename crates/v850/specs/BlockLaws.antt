@@ -10,7 +10,7 @@ use Rattle.machine.specs.Marked.{Cells, both}
 use Rattle.machine.specs.Psw.{REGS, sys, EIPC, EIPSW, FEPC, FEPSW, ECR, PSW, CELLS, psw}
 use Rattle.machine.specs.WellFormed.{WellFormed, limit, mark_limit, good_code}
 use Rattle.machine.specs.InvariantLaws.{reg-limit, reg-mark-limit, code_target}
-use Rattle.machine.specs.Invariants.{reset_well_formed}
+use Rattle.machine.proofs.Invariants.{reset_well_formed}
 use Rattle.v850.specs.Block.{bits_from, pack_bits, byte, at_pc, at_psw, at_eipc, at_eipsw, at_fepc, at_fepsw, at_ecr, at_code, at_waits, at_reg_marks, at_sys_marks, at_map, MAP_WORDS, WORDS, map_in, core_in, nums_in, marks_in, cells_in, words_of, good_state}
 use Rattle.v850.specs.PackLaws.{Below, below-append, below-cons, below-take, pack_lt, bits-length, bits_below, bits-pack, pack-bits}
 use Rattle.v850.specs.PartLaws.{psw-parts, psw-whole, waits-parts, waits-whole, marks-parts, marks-whole}

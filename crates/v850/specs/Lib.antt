@@ -12,4 +12,3 @@ pub mod AlikeStarts
 pub mod SecrecyLaws
 pub mod Secrecy
 pub mod CallLaws
-pub mod Answers

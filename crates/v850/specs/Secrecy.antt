@@ -8,9 +8,9 @@ use Rattle.machine.specs.Marked.{Cells, both}
 use Rattle.machine.specs.Regions.{good_map}
 use Rattle.machine.specs.Run.{number, Ended, run}
 use Rattle.machine.specs.WellFormed.{WellFormed}
-use Rattle.machine.specs.Invariants.{run_well_formed}
+use Rattle.machine.proofs.Invariants.{run_well_formed}
 use Rattle.machine.specs.Alike.{bit_cells, no_bit_cells, Alike, AlikeEnds}
-use Rattle.machine.specs.Secrecy.{secrecy}
+use Rattle.machine.proofs.Secrecy.{secrecy}
 use Rattle.v850.specs.Block.{bytes_of, words_from, BYTES, WORDS, MAP_WORDS, REPORT, map_in, core_in, cells_in, words_of, good_state}
 use Rattle.v850.specs.PackLaws.{Below, words-length, words-bytes, words-below}
 use Rattle.v850.specs.BlockLaws.{map-long, map-words, apart-together}

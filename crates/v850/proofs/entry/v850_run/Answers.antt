@@ -12,7 +12,8 @@ use Rattle.v850.specs.Block.{BYTES, WORDS, REPORT, map_in, core_in, nums_in, mar
 use Rattle.v850.specs.PackLaws.{words-length}
 use Rattle.v850.specs.BlockLaws.{map-long}
 use Rattle.v850.specs.Entry.{MEMORY, words_in}
-use Rattle.v850.specs.CallLaws.{sizes-good, wrong_block, wrong_report, wrong_memory, wrong_marks, refused_map, refused_state, Starts, starts_ready, starts_formed, ends-formed, ends-called}
+use Rattle.v850.specs.CallLaws.{Starts}
+use Rattle.v850.proofs.CallLaws.{sizes-good, wrong_block, wrong_report, wrong_memory, wrong_marks, refused_map, refused_state, starts_ready, starts_formed, ends-formed, ends-called}
 use Rattle.v850.proofs.entry.v850_run.Goals as goal
 
 -- what the tests of MAP and STATE ask, where ws are the block's words and map is the map in them

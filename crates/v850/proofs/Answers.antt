@@ -6,10 +6,10 @@ use Rattle.machine.specs.declared.Answer.TheVariants.{Size, Map, State}
 use Rattle.machine.specs.Marked.{both}
 use Rattle.machine.specs.Regions.{good_map}
 use Rattle.machine.specs.Run.{number}
-use Rattle.machine.specs.Invariants.{run_answers}
+use Rattle.machine.proofs.Invariants.{run_answers}
 use Rattle.v850.specs.Block.{REPORT, map_in, core_in, cells_in, good_state}
 use Rattle.v850.specs.Entry.{Left, left, good_sizes, words_in, called}
-use Rattle.v850.specs.CallLaws.{refused_size, refused_map, refused_state}
+use Rattle.v850.proofs.CallLaws.{refused_size, refused_map, refused_state}
 
 -- no number of a refused call
 another : {n : ℕ} (k : ℕ) → 0 < k → k < 4 → ((n ≡ 0) ⊎ (4 ≤ n)) → n ≡ k → ⊥

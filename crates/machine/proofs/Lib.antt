@@ -1,0 +1,2 @@
+pub mod Invariants
+pub mod Secrecy
