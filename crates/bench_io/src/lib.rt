@@ -1,5 +1,5 @@
 // From a reader to standard output: reads the input, and writes its line. What the line is, `bench_line` says and proves; no
-// contract can say what is read or written.
+// contract can say what the system's streams give or take.
 #![tactic(auto)]
 
 ghost use Rattle.std.specs.Prelude.{length};
