@@ -1,4 +1,4 @@
-/* What the walks share: the sum over the answers, whose factor crates/encode_walk/src/tally.rt explains. */
+/* What the walks share: the sum over the answers, whose factor crates/walk_sum/src/lib.rt explains. */
 #ifndef WALK_H
 #define WALK_H
 

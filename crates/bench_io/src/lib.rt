@@ -2,67 +2,59 @@
 // contract can say what the system's streams give or take.
 #![tactic(auto)]
 
-ghost use Rattle.std.specs.Prelude.{length};
-ghost use Rattle.bench_io.specs.Reading.{Within};
+ghost use Rattle.std.specs.Io.{ReadsAtMost};
 
 use bench_line::{IMAGE, LONGEST};
 use std::io::Read;
+use std::{fmt, io};
 
 // One byte more than an image has, so that a longer input is told from a full one.
 const ROOM: usize = IMAGE + 1;
 
-// How many bytes were read, or that they could not be.
+// Why there is no line: an input that cannot be read to its end has none, and one can be refused by the output.
 #[derive(Clone, Copy)]
-enum Input {
-    Read(usize),
-    Failed,
+enum Failure {
+    Input,
+    Line,
 }
 
-// One read. It may bring fewer bytes than there is room for, and brings none at the end of the input.
-fn more(reader: &mut impl Read, room: &mut [u8]) -> Input
-    ensures { Within (length room.new) result }
-{
-    match reader.read(room) {
-        Ok(n) => Input::Read(n),
-        Err(_) => Input::Failed,
+impl fmt::Display for Failure {
+    fn fmt<W: fmt::Write>(&self, f: &mut fmt::Formatter<W>) -> fmt::Result {
+        match self {
+            Failure::Input => write!(f, "the input cannot be read"),
+            Failure::Line => write!(f, "the line cannot be written"),
+        }
     }
 }
 
-// Reads to the end of the input, or until the room is full.
-fn read(reader: &mut impl Read, room: &mut [u8]) -> Input
-    ensures { Within (length room.new) result }
+// Reads to the end of the input, or until the room is full, and returns how many bytes that are. A read may bring fewer bytes
+// than there is room for, and brings none at the end. (`read_exact` does not say how many came before the end.)
+fn read(reader: &mut impl Read, room: &mut [u8]) -> io::Result<usize>
+    ensures { ReadsAtMost result room.new }
 {
-    let mut at: usize = 0;
+    let mut at = 0;
     while at < room.len() {
-        let got = more(reader, &mut room[at..]);
-        let Input::Read(n) = got else {
-            return Input::Failed;
-        };
+        let n = reader.read(&mut room[at..])?;
         if n == 0 {
-            return Input::Read(at);
+            break;
         }
         at += n;
     }
-    Input::Read(at)
+    Ok(at)
 }
 
-// Writes the line of an input.
-fn answer(rt: &(impl Print + Eprint), input: &[u8]) {
-    let mut out = [0u8; LONGEST];
-    let n = bench_line::line(input, &mut out);
-    if rt.write_all(&out[..n]).is_err() {
-        let _ = eprintln!(rt; "bench: the line cannot be written");
-    }
-}
-
-// An input that cannot be read to its end has no line.
-pub fn bench(rt: &(impl Print + Eprint), reader: &mut impl Read) {
+fn answer(rt: &impl Print, reader: &mut impl Read) -> Result<(), Failure> {
     let mut room = [0u8; ROOM];
-    let input = read(reader, &mut room);
-    match input {
-        Input::Read(n) => answer(rt, &room[..n]),
-        Input::Failed => {
-            let _ = eprintln!(rt; "bench: the input cannot be read");
-        }
+    let n = read(reader, &mut room).map_err(|_| Failure::Input)?;
+    let mut out = [0u8; LONGEST];
+    let long = bench_line::line(&room[..n], &mut out);
+    rt.write_all(&out[..long]).map_err(|_| Failure::Line)
+}
+
+// Writes the line of the input, or to standard error why there is none. The programs `bench` and `bench_*` are this call and no
+// more: a program is tested on one input, so each input has a program.
+pub fn bench(rt: &(impl Print + Eprint), reader: &mut impl Read) {
+    if let Err(failure) = answer(rt, reader) {
+        let _ = eprintln!(rt; "bench: {failure}");
     }
 }

@@ -1,5 +1,5 @@
 -- Laws of the line: what the code has at each return is what the definition says.
-use Rattle.std.specs.Prelude.{◌≡◌, refl, List, ◌++◌, ℕ, zero, suc, ◌+◌, ◌-◌, ◌≤◌, ◌<◌, length, drop, replicate}
+use Rattle.std.specs.Prelude.{◌≡◌, refl, List, ℕ, zero, suc, ◌+◌, ◌-◌, ◌≤◌, ◌<◌, ◌++◌, length, drop, replicate}
 use Rattle.std.proofs.Common.{sym, ◌∙◌, arith, le-leb, length-append}
 use Rattle.std.proofs.Math.Path.{ap}
 use Rattle.std.proofs.lemmas.Bool.{lt-leb}
@@ -11,7 +11,6 @@ use Rattle.bench_line.specs.Text.{DIGITS, Wrote}
 use Rattle.bench_line.specs.TextLaws.{hex-length, decimal-length}
 use Rattle.bench_line.specs.Line.{IMAGE, BUDGET, padded, start_block, no_report, Leaves, ran, line_of, line, LONGEST}
 
--- zeros but for the first ones are zeros
 abbrev zeros : ℕ → List ℕ
 zeros n = replicate n 0
 

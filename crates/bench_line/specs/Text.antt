@@ -1,5 +1,5 @@
 -- Text in ASCII: names, and numbers in decimal and in hex.
-use Rattle.std.specs.Prelude.{◌≡◌, cond, List, [], ◌∷◌, ◌++◌, ℕ, zero, suc, ◌+◌, ◌-◌, ◌/◌, ◌%◌, ltb, length}
+use Rattle.std.specs.Prelude.{◌≡◌, cond, List, [], ◌∷◌, ◌++◌, ℕ, zero, suc, ◌+◌, ◌-◌, ◌/◌, ◌%◌, ltb, leb, ◌||◌, length}
 use Prim.Native.Char.{code}
 use Prim.Native.String.{String}
 use Prim.Native.String.{[] as empty, ◌∷◌ as ◌then◌}
@@ -30,6 +30,12 @@ DIGITS = 10
 
 abbrev pub decimal : ℕ → List ℕ
 decimal n = decimal_in DIGITS n
+
+-- The digits of n in a base, the highest first: at least `least`, with zeros in front, and the last `most` at most
+unfoldable pub digits : (base least most n : ℕ) → List ℕ
+digits base least zero n = []
+digits base least (suc most) n =
+    cond (leb base n || ltb 1 least) (digits base (least - 1) most (n / base)) [] ++ (glyph (n % base) ∷ [])
 
 -- What a function that writes leaves: the text stands from `at` on, all else is as it was, and the next place follows the text
 pub record Wrote (before : List ℕ) (at : ℕ) (text after : List ℕ) (next : ℕ) : Type 0 where

@@ -1,53 +1,31 @@
 // The operands that are tried.
 
-pub(crate) const REGISTERS: u32 = 8;
-
-pub(crate) const NUMBERS: u32 = 40;
-
-pub(crate) const VALUES: u32 = 504;
-
 // Registers: the ends, some between, and three that do not exist.
-pub(crate) fn register(n: u32) -> u32 {
-    match n {
-        0 => 0,
-        1 => 1,
-        2 => 15,
-        3 => 30,
-        4 => 31,
-        5 => 32,
-        6 => 33,
-        _ => 0xFFFFFFFF,
-    }
-}
+pub(crate) const REGISTERS: [u32; 8] = [0, 1, 15, 30, 31, 32, 33, 0xFFFFFFFF];
 
 // Conditions, bit numbers, vectors and system registers: all below 34, and six above.
-pub(crate) fn number(n: u32) -> u32 {
-    if n < 34 {
-        return n;
-    }
-    match n {
-        34 => 64,
-        35 => 128,
-        36 => 256,
-        37 => 0x10000,
-        38 => 0x80000000,
-        _ => 0xFFFFFFFF,
-    }
-}
+pub(crate) const NUMBERS: [u32; 40] = [
+    0, 1, 2, 3, 4, 5, 6, 7, 8, 9, 10, 11, 12, 13, 14, 15, 16, 17, 18, 19, 20, 21, 22, 23, 24, 25,
+    26, 27, 28, 29, 30, 31, 32, 33, 64, 128, 256, 0x10000, 0x80000000, 0xFFFFFFFF,
+];
+
+// For an operand that an instruction does not have.
+pub(crate) const NONE: [u32; 1] = [0];
 
 // Immediates and displacements: nine words around each middle, from 4 below it to 4 above.
-pub(crate) fn value(n: u32) -> u32 {
-    let from = std::num::wrapping_sub_u32(middle(n / 9), 4);
-    std::num::wrapping_add_u32(from, n % 9)
+pub(crate) fn values() -> [u32; 504] {
+    std::array::from_fn(value)
+}
+
+fn value(n: usize) -> u32 {
+    middle(n / 9).wrapping_sub(4).wrapping_add((n % 9) as u32)
 }
 
 // 0; 2^4 to 2^31; -2^4 to -2^30. Every range ends beside one of them, and no two of their words are equal.
-fn middle(n: u32) -> u32 {
-    if n == 0 {
-        return 0;
+fn middle(n: usize) -> u32 {
+    match n {
+        0 => 0,
+        1..=28 => 1 << (n + 3),
+        _ => (1u32 << ((n - 25) % 32)).wrapping_neg(),
     }
-    if n <= 28 {
-        return 1 << (n + 3);
-    }
-    std::num::wrapping_sub_u32(0, 1 << ((n - 25) % 32))
 }

@@ -21,10 +21,8 @@ mod forms;
 mod lists;
 mod tally;
 
-use forms::Form;
-use insn::{BitOp, Imm5Op, Imm16Op, RegOp, ShiftOp, Size, encode};
+use insn::{BitOp, Imm5Op, Imm16Op, Insn, RegOp, ShiftOp, Size};
 use std::io;
-use tally::Tally;
 
 fn main(rt: HostRuntime) -> io::Result<()> {
     format_1(&rt)?;
@@ -37,105 +35,83 @@ fn main(rt: HostRuntime) -> io::Result<()> {
 }
 
 fn format_1(rt: &impl Print) -> io::Result<()> {
-    line(rt, b"MOV reg1, reg2", Form::Reg(RegOp::Mov))?;
-    line(rt, b"NOT reg1, reg2", Form::Reg(RegOp::Not))?;
-    line(rt, b"DIVH reg1, reg2", Form::Reg(RegOp::Divh))?;
-    line(rt, b"JMP [reg1]", Form::Jmp)?;
-    line(rt, b"SATSUBR reg1, reg2", Form::Reg(RegOp::Satsubr))?;
-    line(rt, b"SATSUB reg1, reg2", Form::Reg(RegOp::Satsub))?;
-    line(rt, b"SATADD reg1, reg2", Form::Reg(RegOp::Satadd))?;
-    line(rt, b"MULH reg1, reg2", Form::Reg(RegOp::Mulh))?;
-    line(rt, b"OR reg1, reg2", Form::Reg(RegOp::Or))?;
-    line(rt, b"XOR reg1, reg2", Form::Reg(RegOp::Xor))?;
-    line(rt, b"AND reg1, reg2", Form::Reg(RegOp::And))?;
-    line(rt, b"TST reg1, reg2", Form::Reg(RegOp::Tst))?;
-    line(rt, b"SUBR reg1, reg2", Form::Reg(RegOp::Subr))?;
-    line(rt, b"SUB reg1, reg2", Form::Reg(RegOp::Sub))?;
-    line(rt, b"ADD reg1, reg2", Form::Reg(RegOp::Add))?;
-    line(rt, b"CMP reg1, reg2", Form::Reg(RegOp::Cmp))
+    forms::reg(rt, "MOV reg1, reg2", RegOp::Mov)?;
+    forms::reg(rt, "NOT reg1, reg2", RegOp::Not)?;
+    forms::reg(rt, "DIVH reg1, reg2", RegOp::Divh)?;
+    forms::jmp(rt, "JMP [reg1]")?;
+    forms::reg(rt, "SATSUBR reg1, reg2", RegOp::Satsubr)?;
+    forms::reg(rt, "SATSUB reg1, reg2", RegOp::Satsub)?;
+    forms::reg(rt, "SATADD reg1, reg2", RegOp::Satadd)?;
+    forms::reg(rt, "MULH reg1, reg2", RegOp::Mulh)?;
+    forms::reg(rt, "OR reg1, reg2", RegOp::Or)?;
+    forms::reg(rt, "XOR reg1, reg2", RegOp::Xor)?;
+    forms::reg(rt, "AND reg1, reg2", RegOp::And)?;
+    forms::reg(rt, "TST reg1, reg2", RegOp::Tst)?;
+    forms::reg(rt, "SUBR reg1, reg2", RegOp::Subr)?;
+    forms::reg(rt, "SUB reg1, reg2", RegOp::Sub)?;
+    forms::reg(rt, "ADD reg1, reg2", RegOp::Add)?;
+    forms::reg(rt, "CMP reg1, reg2", RegOp::Cmp)
 }
 
 fn format_2(rt: &impl Print) -> io::Result<()> {
-    line(rt, b"MOV imm5, reg2", Form::Imm5(Imm5Op::Mov5))?;
-    line(rt, b"SATADD imm5, reg2", Form::Imm5(Imm5Op::Satadd5))?;
-    line(rt, b"ADD imm5, reg2", Form::Imm5(Imm5Op::Add5))?;
-    line(rt, b"CMP imm5, reg2", Form::Imm5(Imm5Op::Cmp5))?;
-    line(rt, b"SHR imm5, reg2", Form::Imm5(Imm5Op::Shr5))?;
-    line(rt, b"SAR imm5, reg2", Form::Imm5(Imm5Op::Sar5))?;
-    line(rt, b"SHL imm5, reg2", Form::Imm5(Imm5Op::Shl5))?;
-    line(rt, b"MULH imm5, reg2", Form::Imm5(Imm5Op::Mulh5))
+    forms::imm5(rt, "MOV imm5, reg2", Imm5Op::Mov5)?;
+    forms::imm5(rt, "SATADD imm5, reg2", Imm5Op::Satadd5)?;
+    forms::imm5(rt, "ADD imm5, reg2", Imm5Op::Add5)?;
+    forms::imm5(rt, "CMP imm5, reg2", Imm5Op::Cmp5)?;
+    forms::imm5(rt, "SHR imm5, reg2", Imm5Op::Shr5)?;
+    forms::imm5(rt, "SAR imm5, reg2", Imm5Op::Sar5)?;
+    forms::imm5(rt, "SHL imm5, reg2", Imm5Op::Shl5)?;
+    forms::imm5(rt, "MULH imm5, reg2", Imm5Op::Mulh5)
 }
 
 fn format_3_and_4(rt: &impl Print) -> io::Result<()> {
-    line(rt, b"SLD.B disp7[ep], reg2", Form::Sld(Size::Byte))?;
-    line(rt, b"SST.B reg2, disp7[ep]", Form::Sst(Size::Byte))?;
-    line(rt, b"SLD.H disp8[ep], reg2", Form::Sld(Size::Half))?;
-    line(rt, b"SST.H reg2, disp8[ep]", Form::Sst(Size::Half))?;
-    line(rt, b"SLD.W disp8[ep], reg2", Form::Sld(Size::Word))?;
-    line(rt, b"SST.W reg2, disp8[ep]", Form::Sst(Size::Word))?;
-    line(rt, b"Bcond disp9", Form::Bcond)
+    forms::sld(rt, "SLD.B disp7[ep], reg2", Size::Byte)?;
+    forms::sst(rt, "SST.B reg2, disp7[ep]", Size::Byte)?;
+    forms::sld(rt, "SLD.H disp8[ep], reg2", Size::Half)?;
+    forms::sst(rt, "SST.H reg2, disp8[ep]", Size::Half)?;
+    forms::sld(rt, "SLD.W disp8[ep], reg2", Size::Word)?;
+    forms::sst(rt, "SST.W reg2, disp8[ep]", Size::Word)?;
+    forms::bcond(rt, "Bcond disp9")
 }
 
 fn format_6(rt: &impl Print) -> io::Result<()> {
-    line(rt, b"ADDI imm16, reg1, reg2", Form::Imm16(Imm16Op::Addi))?;
-    line(rt, b"MOVEA imm16, reg1, reg2", Form::Imm16(Imm16Op::Movea))?;
-    line(rt, b"MOVHI imm16, reg1, reg2", Form::Imm16(Imm16Op::Movhi))?;
-    line(
-        rt,
-        b"SATSUBI imm16, reg1, reg2",
-        Form::Imm16(Imm16Op::Satsubi),
-    )?;
-    line(rt, b"ORI imm16, reg1, reg2", Form::Imm16(Imm16Op::Ori))?;
-    line(rt, b"XORI imm16, reg1, reg2", Form::Imm16(Imm16Op::Xori))?;
-    line(rt, b"ANDI imm16, reg1, reg2", Form::Imm16(Imm16Op::Andi))?;
-    line(rt, b"MULHI imm16, reg1, reg2", Form::Imm16(Imm16Op::Mulhi))
+    forms::imm16(rt, "ADDI imm16, reg1, reg2", Imm16Op::Addi)?;
+    forms::imm16(rt, "MOVEA imm16, reg1, reg2", Imm16Op::Movea)?;
+    forms::imm16(rt, "MOVHI imm16, reg1, reg2", Imm16Op::Movhi)?;
+    forms::imm16(rt, "SATSUBI imm16, reg1, reg2", Imm16Op::Satsubi)?;
+    forms::imm16(rt, "ORI imm16, reg1, reg2", Imm16Op::Ori)?;
+    forms::imm16(rt, "XORI imm16, reg1, reg2", Imm16Op::Xori)?;
+    forms::imm16(rt, "ANDI imm16, reg1, reg2", Imm16Op::Andi)?;
+    forms::imm16(rt, "MULHI imm16, reg1, reg2", Imm16Op::Mulhi)
 }
 
 fn format_7(rt: &impl Print) -> io::Result<()> {
-    line(rt, b"LD.B disp16[reg1], reg2", Form::Ld(Size::Byte))?;
-    line(rt, b"LD.H disp16[reg1], reg2", Form::Ld(Size::Half))?;
-    line(rt, b"LD.W disp16[reg1], reg2", Form::Ld(Size::Word))?;
-    line(rt, b"ST.B reg2, disp16[reg1]", Form::St(Size::Byte))?;
-    line(rt, b"ST.H reg2, disp16[reg1]", Form::St(Size::Half))?;
-    line(rt, b"ST.W reg2, disp16[reg1]", Form::St(Size::Word))
+    forms::ld(rt, "LD.B disp16[reg1], reg2", Size::Byte)?;
+    forms::ld(rt, "LD.H disp16[reg1], reg2", Size::Half)?;
+    forms::ld(rt, "LD.W disp16[reg1], reg2", Size::Word)?;
+    forms::st(rt, "ST.B reg2, disp16[reg1]", Size::Byte)?;
+    forms::st(rt, "ST.H reg2, disp16[reg1]", Size::Half)?;
+    forms::st(rt, "ST.W reg2, disp16[reg1]", Size::Word)
 }
 
 fn format_5_and_8(rt: &impl Print) -> io::Result<()> {
-    line(rt, b"JARL disp22, reg2", Form::Jarl)?;
-    line(rt, b"SET1 bit#3, disp16[reg1]", Form::Bit(BitOp::Set1))?;
-    line(rt, b"NOT1 bit#3, disp16[reg1]", Form::Bit(BitOp::Not1))?;
-    line(rt, b"CLR1 bit#3, disp16[reg1]", Form::Bit(BitOp::Clr1))?;
-    line(rt, b"TST1 bit#3, disp16[reg1]", Form::Bit(BitOp::Tst1))
+    forms::jarl(rt, "JARL disp22, reg2")?;
+    forms::bit(rt, "SET1 bit#3, disp16[reg1]", BitOp::Set1)?;
+    forms::bit(rt, "NOT1 bit#3, disp16[reg1]", BitOp::Not1)?;
+    forms::bit(rt, "CLR1 bit#3, disp16[reg1]", BitOp::Clr1)?;
+    forms::bit(rt, "TST1 bit#3, disp16[reg1]", BitOp::Tst1)
 }
 
 fn format_9_and_10(rt: &impl Print) -> io::Result<()> {
-    line(rt, b"SETF cccc, reg2", Form::Setf)?;
-    line(rt, b"LDSR reg2, regID", Form::Ldsr)?;
-    line(rt, b"STSR regID, reg2", Form::Stsr)?;
-    line(rt, b"SHR reg1, reg2", Form::Shift(ShiftOp::Shr))?;
-    line(rt, b"SAR reg1, reg2", Form::Shift(ShiftOp::Sar))?;
-    line(rt, b"SHL reg1, reg2", Form::Shift(ShiftOp::Shl))?;
-    line(rt, b"TRAP vector", Form::Trap)?;
-    line(rt, b"HALT", Form::Halt)?;
-    line(rt, b"RETI", Form::Reti)?;
-    line(rt, b"DI", Form::Di)?;
-    line(rt, b"EI", Form::Ei)
-}
-
-// A line for one operation.
-fn line(rt: &impl Print, name: &[u8], form: Form) -> io::Result<()> {
-    rt.write_all(name)?;
-    print!(rt; ":")?;
-    tally::print(rt, walk(form, forms::size(form)))
-}
-
-// All instructions of a form.
-fn walk(form: Form, size: u32) -> Tally {
-    let mut t = tally::none();
-    let mut n: u32 = 0;
-    while n < size {
-        t = tally::noted(t, encode::encode(forms::filled(form, n)));
-        n += 1;
-    }
-    t
+    forms::setf(rt, "SETF cccc, reg2")?;
+    forms::ldsr(rt, "LDSR reg2, regID")?;
+    forms::stsr(rt, "STSR regID, reg2")?;
+    forms::shift(rt, "SHR reg1, reg2", ShiftOp::Shr)?;
+    forms::shift(rt, "SAR reg1, reg2", ShiftOp::Sar)?;
+    forms::shift(rt, "SHL reg1, reg2", ShiftOp::Shl)?;
+    forms::trap(rt, "TRAP vector")?;
+    forms::alone(rt, "HALT", Insn::Halt)?;
+    forms::alone(rt, "RETI", Insn::Reti)?;
+    forms::alone(rt, "DI", Insn::Di)?;
+    forms::alone(rt, "EI", Insn::Ei)
 }

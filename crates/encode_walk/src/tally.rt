@@ -1,69 +1,44 @@
-// What the encoder answered, counted, and a sum that tells one list of answers from another.
-use insn::Encoded;
-use std::io;
+// What the encoder answered, counted, and a sum over all the answers (`walk_sum`).
+use insn::{EncodeError, Halfwords};
+use std::fmt;
+use walk_sum::Sum;
 
-#[derive(Clone, Copy)]
+#[derive(Clone, Copy, Default)]
 pub(crate) struct Tally {
     one: u32,
     two: u32,
     field: u32,
-    sum: u32,
+    sum: Sum,
 }
 
-pub(crate) fn none() -> Tally {
-    Tally {
-        one: 0,
-        two: 0,
-        field: 0,
-        sum: 0,
+impl Tally {
+    // The number of halfwords goes into the sum, and both halfwords, 0 for one that is not there.
+    pub(crate) fn note(&mut self, answer: Result<Halfwords, EncodeError>) {
+        match answer {
+            Ok(Halfwords::One(h)) => {
+                self.one = self.one.wrapping_add(1);
+                self.mix(1, h, 0);
+            }
+            Ok(Halfwords::Two(h, w)) => {
+                self.two = self.two.wrapping_add(1);
+                self.mix(2, h, w);
+            }
+            Err(EncodeError::Field) => {
+                self.field = self.field.wrapping_add(1);
+                self.mix(0, 0, 0);
+            }
+        }
+    }
+
+    fn mix(&mut self, count: u32, first: u16, second: u16) {
+        self.sum.mix(count);
+        self.sum.mix(u32::from(first));
+        self.sum.mix(u32::from(second));
     }
 }
 
-// The number of halfwords goes into the sum, and both halfwords, 0 for one that is not there.
-pub(crate) fn noted(t: Tally, e: Encoded) -> Tally {
-    match e {
-        Encoded::One(h) => Tally {
-            one: more(t.one),
-            two: t.two,
-            field: t.field,
-            sum: mixed(t.sum, 1, h, 0),
-        },
-        Encoded::Two(h, w) => Tally {
-            one: t.one,
-            two: more(t.two),
-            field: t.field,
-            sum: mixed(t.sum, 2, h, w),
-        },
-        Encoded::Field => Tally {
-            one: t.one,
-            two: t.two,
-            field: more(t.field),
-            sum: mixed(t.sum, 0, 0, 0),
-        },
+impl fmt::Display for Tally {
+    fn fmt<W: fmt::Write>(&self, f: &mut fmt::Formatter<W>) -> fmt::Result {
+        write!(f, "{} {} {} {}", self.one, self.two, self.field, self.sum)
     }
-}
-
-fn more(n: u32) -> u32 {
-    std::num::wrapping_add_u32(n, 1)
-}
-
-fn mixed(sum: u32, count: u32, first: u16, second: u16) -> u32 {
-    mix(mix(mix(sum, count), first as u32), second as u32)
-}
-
-// The factor is odd, so answers that differ in one place only have different sums; and 1 more than a multiple of 4, so that many
-// like differences do not cancel.
-fn mix(sum: u32, n: u32) -> u32 {
-    ((sum as u64 * 1664525 + n as u64) % 0x100000000) as u32
-}
-
-pub(crate) fn print(rt: &impl Print, t: Tally) -> io::Result<()> {
-    column(rt, t.one)?;
-    column(rt, t.two)?;
-    column(rt, t.field)?;
-    println!(rt; " {:08x}", t.sum)
-}
-
-fn column(rt: &impl Print, n: u32) -> io::Result<()> {
-    print!(rt; " {n}")
 }

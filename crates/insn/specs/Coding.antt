@@ -1,5 +1,5 @@
 -- The instruction words, in the order of the order's table: decoding and encoding side by side.
-use Rattle.std.specs.Prelude.{Bool, true, false, cond, ◌&&◌, ◌||◌, List, [], ◌∷◌, ℕ, ◌+◌, ◌-◌, ◌*◌, ◌/◌, ◌%◌, ◌^◌, eqb, ltb, leb, get_or}
+use Rattle.std.specs.Prelude.{Bool, true, false, cond, ◌&&◌, ◌||◌, List, [], ◌∷◌, ℕ, ◌+◌, ◌-◌, ◌*◌, ◌/◌, ◌%◌, ◌^◌, eqb, ltb, leb, get_or, Result, Ok, Err}
 use Rattle.word.specs.Word.{W}
 use Rattle.word.specs.Extend.{zero_extend, sign_extend}
 use Rattle.insn.specs.declared.RegOp.{RegOp}
@@ -8,17 +8,22 @@ use Rattle.insn.specs.declared.Imm5Op.{Imm5Op}
 use Rattle.insn.specs.declared.Imm5Op.TheVariants.{Mov5, Satadd5, Add5, Cmp5, Shr5, Sar5, Shl5, Mulh5}
 use Rattle.insn.specs.declared.Imm16Op.{Imm16Op}
 use Rattle.insn.specs.declared.Imm16Op.TheVariants.{Addi, Movea, Movhi, Satsubi, Ori, Xori, Andi, Mulhi}
+use Rattle.insn.specs.declared.ShiftOp.{ShiftOp}
 use Rattle.insn.specs.declared.ShiftOp.TheVariants.{Shr, Sar, Shl}
 use Rattle.insn.specs.declared.BitOp.{BitOp}
 use Rattle.insn.specs.declared.BitOp.TheVariants.{Set1, Not1, Clr1, Tst1}
 use Rattle.insn.specs.declared.Size.{Size}
 use Rattle.insn.specs.declared.Size.TheVariants.{Byte, Half, Word}
+use Rattle.insn.specs.declared.Way.{Way}
+use Rattle.insn.specs.declared.Way.TheVariants.{Load, Store}
 use Rattle.insn.specs.declared.Insn.{Insn}
 use Rattle.insn.specs.declared.Insn.TheVariants.{Reg, Jmp, Imm5, Sld, Sst, Bcond, Imm16, Ld, St, Jarl, Bit, Setf, Ldsr, Stsr, Shift, Trap, Halt, Reti, Di, Ei}
 use Rattle.insn.specs.declared.Decoded.{Decoded}
 use Rattle.insn.specs.declared.Decoded.TheVariants.{Valid, Illegal, Undefined}
-use Rattle.insn.specs.declared.Encoded.{Encoded}
-use Rattle.insn.specs.declared.Encoded.TheVariants.{One, Two, Field}
+use Rattle.insn.specs.declared.Halfwords.{Halfwords}
+use Rattle.insn.specs.declared.Halfwords.TheVariants.{One, Two}
+use Rattle.insn.specs.declared.EncodeError.{EncodeError}
+use Rattle.insn.specs.declared.EncodeError.TheVariants.{Field}
 
 -- A halfword's fields: reg2 in bits 15-11, opcode in bits 10-5, reg1 in bits 4-0
 abbrev pub reg2_of : ℕ → ℕ
@@ -125,6 +130,12 @@ bit_code Not1 = 0b01
 bit_code Clr1 = 0b10
 bit_code Tst1 = 0b11
 
+-- 111111, shifts by a register: the second halfword
+abbrev pub shift_code : ShiftOp → ℕ
+shift_code Shr = 0x0080
+shift_code Sar = 0x00A0
+shift_code Shl = 0x00C0
+
 -- system numbers: LDSR takes EIPC 0, EIPSW 1, FEPC 2, FEPSW 3 and PSW 5, STSR takes ECR 4 too
 abbrev pub loads : ℕ → Bool
 loads regid = ltb regid 4 || eqb regid 5
@@ -134,6 +145,15 @@ stores regid = ltb regid 6
 
 abbrev pub when : Bool → Insn → Decoded
 when b i = cond b (Valid i) Undefined
+
+-- A load or a store, in its short form and in its long one
+abbrev pub short_transfer : Way → Size → ℕ → ℕ → Insn
+short_transfer Load = Sld
+short_transfer Store = Sst
+
+abbrev pub long_transfer : Way → Size → ℕ → ℕ → ℕ → Insn
+long_transfer Load = Ld
+long_transfer Store = St
 
 -- The displacements that short loads and stores, Bcond and JARL keep in two fields
 abbrev pub disp7 : ℕ → ℕ → ℕ
@@ -189,10 +209,10 @@ unfoldable pub decode : ℕ → ℕ → Decoded
 decode h w = decode_fields (reg2_of h) (opcode_of h) (reg1_of h) w
 
 -- Encoding: the halfwords of an instruction, operand by operand
-abbrev pub short : ℕ → ℕ → ℕ → Encoded
+abbrev pub short : ℕ → ℕ → ℕ → Halfwords
 short opcode field reg2 = One (half reg2 (opcode + field / 32) (field % 32))
 
-abbrev pub two_of : ℕ → ℕ → ℕ → ℕ → Encoded
+abbrev pub two_of : ℕ → ℕ → ℕ → ℕ → Halfwords
 two_of reg2 opcode reg1 w = Two (half reg2 opcode reg1) w
 
 abbrev pub branch_half : ℕ → ℕ → ℕ
@@ -201,7 +221,7 @@ branch_half cc bits = half (bits / 16) (0b101100 + bits / 4 % 4) (bits / 2 % 2 *
 abbrev pub jarl_half : ℕ → ℕ → ℕ
 jarl_half reg2 bits = half reg2 (0b111100 + bits / 2 ^ 21) (bits / 2 ^ 16 % 32)
 
-unfoldable pub halfwords : Insn → Encoded
+unfoldable pub halfwords : Insn → Halfwords
 halfwords (Reg op reg1 reg2) = One (half reg2 (reg_code op) reg1)
 halfwords (Jmp reg1) = One (half 0 0b000011 reg1)
 halfwords (Imm5 op imm reg2) = One (half reg2 (imm5_code op) (imm % 32))
@@ -224,9 +244,7 @@ halfwords (Bit op n disp reg1) = two_of (bit_code op * 8 + n) 0b111110 reg1 (dis
 halfwords (Setf cc reg2) = two_of reg2 0b111111 cc 0x0000
 halfwords (Ldsr reg2 regid) = two_of regid 0b111111 reg2 0x0020
 halfwords (Stsr regid reg2) = two_of reg2 0b111111 regid 0x0040
-halfwords (Shift Shr reg1 reg2) = two_of reg2 0b111111 reg1 0x0080
-halfwords (Shift Sar reg1 reg2) = two_of reg2 0b111111 reg1 0x00A0
-halfwords (Shift Shl reg1 reg2) = two_of reg2 0b111111 reg1 0x00C0
+halfwords (Shift op reg1 reg2) = two_of reg2 0b111111 reg1 (shift_code op)
 halfwords (Trap vector) = two_of 0 0b111111 vector 0x0100
 halfwords Halt = Two 0x07E0 0x0120
 halfwords Reti = Two 0x07E0 0x0140
@@ -283,9 +301,13 @@ in_range Reti = true
 in_range Di = true
 in_range Ei = true
 
+-- a field's bits, if its operand is in range
+abbrev pub checked : Bool → ℕ → Result ℕ EncodeError
+checked ok bits = cond ok (Ok bits) (Err Field)
+
 -- FIELD exactly if an operand is out of its range
-unfoldable pub encode : Insn → Encoded
-encode i = cond (in_range i) (halfwords i) Field
+unfoldable pub encode : Insn → Result Halfwords EncodeError
+encode i = cond (in_range i) (Ok (halfwords i)) (Err Field)
 
 -- the order's number of the encoder's answer, and the halfwords that come with it
 abbrev pub DONE : ℕ
@@ -294,12 +316,11 @@ DONE = 0
 abbrev pub FIELD : ℕ
 FIELD = 10
 
-abbrev pub number : Encoded → ℕ
-number (One h) = DONE
-number (Two h w) = DONE
-number Field = FIELD
+abbrev pub number : Result Halfwords EncodeError → ℕ
+number (Ok h) = DONE
+number (Err Field) = FIELD
 
-abbrev pub listed : Encoded → List ℕ
-listed (One h) = h ∷ []
-listed (Two h w) = h ∷ w ∷ []
-listed Field = []
+abbrev pub listed : Result Halfwords EncodeError → List ℕ
+listed (Ok (One h)) = h ∷ []
+listed (Ok (Two h w)) = h ∷ w ∷ []
+listed (Err Field) = []

@@ -10,17 +10,17 @@ use Rattle.insn.specs.declared.Insn.{Insn}
 use Rattle.insn.specs.declared.Insn.TheVariants.{Reg, Imm5, Bcond, Imm16, Jarl}
 use Rattle.insn.specs.declared.Decoded.{Decoded}
 use Rattle.insn.specs.declared.Decoded.TheVariants.{Valid, Illegal, Undefined}
-use Rattle.insn.specs.declared.Encoded.{Encoded}
-use Rattle.insn.specs.declared.Encoded.TheVariants.{One, Two}
+use Rattle.insn.specs.declared.Halfwords.{Halfwords}
+use Rattle.insn.specs.declared.Halfwords.TheVariants.{One, Two}
 use Rattle.insn.specs.Coding.{reg2_of, opcode_of, reg1_of, half, long, reg_op, imm5_op, imm5_shifts, imm5, imm16_op, imm16_plain, imm16, loads, stores}
 use Rattle.insn.specs.Coding.{when, disp7, disp9, disp22, decode_extended, decode_fields, decode, halfwords, in_range}
 use Rattle.insn.specs.FieldLaws.{facts, reg-code, imm5-code, imm16-code, bit-code, EvenWord, width5, width9, width16, width22, word, even_word}
 
-pub record EncodesTo (e : Encoded) (i : Insn) : Type 0 where
+pub record EncodesTo (e : Halfwords) (i : Insn) : Type 0 where
   pub valid : in_range i ≡ true
   pub words : halfwords i ≡ e
 
-abbrev pub Encodes : Encoded → Decoded → Type 0
+abbrev pub Encodes : Halfwords → Decoded → Type 0
 Encodes e (Valid i) = EncodesTo e i
 Encodes e Illegal = Unit
 Encodes e Undefined = Unit

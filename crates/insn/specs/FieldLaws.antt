@@ -3,8 +3,7 @@ use Rattle.std.specs.Prelude.{◌≡◌, refl, Bool, cond, ◌&&◌, ◌||◌, �
 use Rattle.std.proofs.Common.{sym, ◌∙◌, subst, ⊎_elim, arith}
 use Rattle.std.proofs.Math.Path.{ap}
 use Rattle.std.proofs.Math.Bool.{true, false}
-use Prim.Native.Nat.{ℕ, zero, suc, ◌+◌, ◌-◌, ◌*◌, ◌%◌, ◌^◌, ◌<◌, ◌≤◌}
-use Rattle.std.proofs.Math.Decide.{ℕ_discrete}
+use Prim.Native.Nat.{ℕ, suc, ◌+◌, ◌-◌, ◌*◌, ◌%◌, ◌^◌, ◌<◌, ◌≤◌}
 use Rattle.std.proofs.Math.Nat.{mod-mod, mod-eq_of_lt, add-mul-mod_self_right}
 use Rattle.std.proofs.Math.Dec.{ltb}
 use borrow.Author.Tests.{ltb-true, ltb-false, leb-true, leb-false, eqb-true, eqb-false, lt-ltb, le-ltb, le-leb}
@@ -23,6 +22,7 @@ use Rattle.insn.specs.declared.Insn.TheVariants.{Reg, Imm5, Imm16}
 use Rattle.insn.specs.declared.Decoded.TheVariants.{Valid}
 use Rattle.insn.specs.Coding.{reg2_of, opcode_of, reg1_of, half, reg_op, reg_code, imm5_op, imm5_code, imm5, imm16_op, imm16_code, imm16, bit_op, bit_code}
 use Rattle.insn.specs.Coding.{loads, disp16, decode_fields, is_signed}
+use Rattle.insn.specs.Within.{Each, within}
 
 pub ruleset facts = (arith, ltb-true, ltb-false, leb-true, leb-false, eqb-true, eqb-false)
 
@@ -34,16 +34,8 @@ or_right true = refl
 or_right false = refl
 
 -- what holds of each of the n numbers from k on, one by one
-abbrev pub Each : (ℕ → Type 0) → ℕ → ℕ → Type 0
-Each P k zero = Unit
-Each P k (suc n) = Each P k n × P (k + n)
-
-pub each : (P : ℕ → Type 0) (k n : ℕ) → Each P k n → (x : ℕ) → k ≤ x → x < k + n → P x
-each P k zero t x l h = absurd (omega arith)
-each P k (suc n) t x l h = elim (ℕ_discrete x (k + n)) as (λ _. P x) [
-  | yes e ↦ subst P (sym e) t.1
-  | no ne ↦ each P k n t.0 x l (omega (arith, ne))
-]
+pub each : (P : ℕ → Type 0) (k n : ℕ) → Each Unit P k n → (x : ℕ) → k ≤ x → x < k + n → P x
+each P k n t x = within Unit P k n t
 
 -- the operations' codes, from code to name and back
 pub reg-code : (n : ℕ) → n < 16 → n ≢ 3 → reg_code (reg_op n) ≡ n

@@ -7,11 +7,11 @@ use Rattle.insn.specs.declared.Size.TheVariants.{Half, Word}
 use Rattle.insn.specs.declared.Insn.TheVariants.{Reg, Jmp, Imm5, Sst, Bcond, Ld, Jarl, Ldsr, Stsr, Trap, Halt, Reti, Di, Ei}
 use Rattle.insn.specs.declared.Decoded.{Decoded}
 use Rattle.insn.specs.declared.Decoded.TheVariants.{Valid, Illegal, Undefined}
-use Rattle.insn.specs.declared.Encoded.{Encoded}
-use Rattle.insn.specs.declared.Encoded.TheVariants.{One, Two, Field}
+use Rattle.insn.specs.declared.Halfwords.{Halfwords}
+use Rattle.insn.specs.declared.Halfwords.TheVariants.{One, Two}
 use Rattle.insn.specs.Coding.{reg_op, imm5_op, decode_extended, decode_fields, decode}
 
-abbrev pub words : List (Encoded × Decoded)
+abbrev pub words : List (Halfwords × Decoded)
 words =
     -- the order's program: MOV 5, r10; ADD -1, r10; BNZ -2; HALT
     (One 0x5205, Valid (Imm5 Mov5 5 10))
@@ -44,11 +44,10 @@ words =
     ∷ (Two 0x07E0 0x0180, Illegal)
     ∷ []
 
--- halfwords read, with v behind a single one (Field is none)
-abbrev pub read : ℕ → Encoded → Decoded
+-- halfwords read, with v behind a single one
+abbrev pub read : ℕ → Halfwords → Decoded
 read v (One h) = decode h v
 read v (Two h w) = decode h w
-read v Field = Undefined
 
 -- Each word of the table decodes to what stands beside it, whatever follows a single halfword
 pub words-decode : (v : ℕ) → map (λ r. read v r.0) words ≡ map (λ r. r.1) words

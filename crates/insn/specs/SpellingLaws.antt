@@ -1,5 +1,5 @@
 -- From an instruction to its halfwords, behind RoundTrip: what they decode to, or why there are none.
-use Rattle.std.specs.Prelude.{◌≡◌, refl, true, false, cond, ◌&&◌, ℕ, ◌+◌, ◌-◌, ◌*◌, ◌/◌, ◌%◌, ◌^◌, ◌<◌, ◌≤◌, eqb}
+use Rattle.std.specs.Prelude.{◌≡◌, refl, true, false, cond, ◌&&◌, ℕ, ◌+◌, ◌-◌, ◌*◌, ◌/◌, ◌%◌, ◌^◌, ◌<◌, ◌≤◌, eqb, Result, Ok, Err}
 use Rattle.std.proofs.Common.{ap, ap₂, ◌∙◌, shr-shr, le-leb, eq-eqb, ne_eqb}
 use Rattle.std.proofs.lemmas.Bool.{lt-leb}
 use Rattle.word.specs.Tests.{both_true, splits}
@@ -9,33 +9,36 @@ use Rattle.insn.specs.declared.Size.TheVariants.{Byte, Half, Word}
 use Rattle.insn.specs.declared.Insn.{Insn}
 use Rattle.insn.specs.declared.Insn.TheVariants.{Reg, Jmp, Imm5, Sld, Sst, Bcond, Imm16, Ld, St, Jarl, Bit, Setf, Ldsr, Stsr, Shift, Trap, Halt, Reti, Di, Ei}
 use Rattle.insn.specs.declared.Decoded.TheVariants.{Valid}
-use Rattle.insn.specs.declared.Encoded.{Encoded}
-use Rattle.insn.specs.declared.Encoded.TheVariants.{One, Two, Field}
+use Rattle.insn.specs.declared.Halfwords.{Halfwords}
+use Rattle.insn.specs.declared.Halfwords.TheVariants.{One, Two}
+use Rattle.insn.specs.declared.EncodeError.{EncodeError}
+use Rattle.insn.specs.declared.EncodeError.TheVariants.{Field}
 use Rattle.insn.specs.Coding.{half, long, reg_code, imm5_code, imm5_shifts, imm16_code, imm16_plain, bit_code, loads, stores, when, disp9, disp16}
 use Rattle.insn.specs.Coding.{disp22, decode_extended, decode_fields, decode, short, two_of, halfwords, is_reg, is_condition, is_signed, is_unsigned}
 use Rattle.insn.specs.Coding.{multiple, is_short_disp, is_long_disp, in_range, encode}
-use Rattle.insn.specs.FieldLaws.{facts, both_true3, Each, each, reg_ops, imm5_ops, imm16_ops, bit_ops, loads-number, fields, is_word, width5, width9, width16, width22, word_of_lem, disp16_of}
+use Rattle.insn.specs.Within.{Each}
+use Rattle.insn.specs.FieldLaws.{facts, both_true3, each, reg_ops, imm5_ops, imm16_ops, bit_ops, loads-number, fields, is_word, width5, width9, width16, width22, word_of_lem, disp16_of}
 
-abbrev pub Spells : Encoded → Insn → Type 0
-Spells (One h) i = (h < 2 ^ 16) × (long h ≡ false) × ((w : ℕ) → decode h w ≡ Valid i)
-Spells (Two h w) i = (h < 2 ^ 16) × (w < 2 ^ 16) × (long h ≡ true) × (decode h w ≡ Valid i)
-Spells Field i = in_range i ≡ false
+abbrev pub Spells : Result Halfwords EncodeError → Insn → Type 0
+Spells (Ok (One h)) i = (h < 2 ^ 16) × (long h ≡ false) × ((w : ℕ) → decode h w ≡ Valid i)
+Spells (Ok (Two h w)) i = (h < 2 ^ 16) × (w < 2 ^ 16) × (long h ≡ true) × (decode h w ≡ Valid i)
+Spells (Err Field) i = in_range i ≡ false
 
 spells_one : {i : Insn} (reg2 opcode reg1 : ℕ) → (reg2 < 32) × (opcode < 48) × (reg1 < 32)
-    → ((w : ℕ) → decode_fields reg2 opcode reg1 w ≡ Valid i) → Spells (One (half reg2 opcode reg1)) i
+    → ((w : ℕ) → decode_fields reg2 opcode reg1 w ≡ Valid i) → Spells (Ok (One (half reg2 opcode reg1))) i
 unfolding decode
 spells_one reg2 opcode reg1 a e = let f = fields reg2 opcode reg1 a.0 (omega facts) a.2 in
     (f.0, rw f.2 (lt-leb 48 opcode a.1), λ w. rw (f.1, f.2, f.3) (e w))
 
 spells-two : {i : Insn} (reg2 opcode reg1 w : ℕ) → (reg2 < 32) × (48 ≤ opcode) × (opcode < 64) × (reg1 < 32) × (w < 2 ^ 16)
-    → decode_fields reg2 opcode reg1 w ≡ Valid i → Spells (Two (half reg2 opcode reg1) w) i
+    → decode_fields reg2 opcode reg1 w ≡ Valid i → Spells (Ok (Two (half reg2 opcode reg1) w)) i
 unfolding decode
 spells-two reg2 opcode reg1 w a e = let f = fields reg2 opcode reg1 a.0 a.2 a.3 in
     (f.0, a.4, rw f.2 (le-leb 48 opcode a.1), rw (f.1, f.2, f.3) e)
 
 -- SLD and SST: four opcodes from `base` on, and `f` makes the instruction of reg1 and the field of seven bits
 spells-short : {i : Insn} (base n b : ℕ) (f : ℕ → ℕ → Insn) → (base < 45) × (n < 128) × (b < 32)
-    → Each (λ q. (r w : ℕ) → decode_fields b (base + q) r w ≡ Valid (f r (q * 32 + r))) 0 4 → f (n % 32) n ≡ i → Spells (short base n b) i
+    → Each Unit (λ q. (r w : ℕ) → decode_fields b (base + q) r w ≡ Valid (f r (q * 32 + r))) 0 4 → f (n % 32) n ≡ i → Spells (Ok (short base n b)) i
 spells-short base n b f h t e = spells_one b (base + n / 32) (n % 32) (omega facts)
     (λ w. each (λ q. (r w : ℕ) → decode_fields b (base + q) r w ≡ Valid (f r (q * 32 + r))) 0 4 t (n / 32) (omega facts) (omega facts) (n % 32) w
     ∙ ap (λ x. Valid (f (n % 32) x)) (omega facts) ∙ ap Valid e)
@@ -45,7 +48,7 @@ abbrev short_word : ℕ → ℕ → ℕ → Insn
 short_word b r x = cond (eqb (r % 2) 0) (Sld Word (x / 2 * 4) b) (Sst Word (x / 2 * 4) b)
 
 -- LD and ST, by their opcode for bytes
-abbrev memory : ℕ → Size → ℕ → ℕ → ℕ → Encoded
+abbrev memory : ℕ → Size → ℕ → ℕ → ℕ → Halfwords
 memory op Byte d a b = two_of b op a (d % 2 ^ 16)
 memory op Half d a b = two_of b (op + 1) a (d % 2 ^ 16)
 memory op Word d a b = two_of b (op + 1) a (d % 2 ^ 16 + 1)
@@ -54,7 +57,7 @@ module _ (mem : Size → ℕ → ℕ → ℕ → Insn) (op : ℕ) (h : (48 ≤ o
     (bytes : (b a w : ℕ) → decode_fields b op a w ≡ Valid (mem Byte (disp16 w) a b))
     (others : (b a w : ℕ)
     → decode_fields b (op + 1) a w ≡ Valid (cond (eqb (w % 2) 0) (mem Half (disp16 w) a b) (mem Word (disp16 (w - 1)) a b))) where
-  spells-memory : (s : Size) (d a b : ℕ) → (is_long_disp s d && (is_reg a && is_reg b)) ≡ true → Spells (memory op s d a b) (mem s d a b)
+  spells-memory : (s : Size) (d a b : ℕ) → (is_long_disp s d && (is_reg a && is_reg b)) ≡ true → Spells (Ok (memory op s d a b)) (mem s d a b)
   spells-memory Byte d a b v = let r = both_true3 (is_signed 16 d) (is_reg a) (is_reg b) v in
       spells-two b op a (d % 2 ^ 16) (omega facts) (bytes b a (d % 2 ^ 16) ∙ ap (λ x. Valid (mem Byte x a b)) (disp16_of d r.0))
   spells-memory Half d a b v =
@@ -69,7 +72,7 @@ module _ (mem : Size → ℕ → ℕ → ℕ → Insn) (op : ℕ) (h : (48 ≤ o
       (others b a (d % 2 ^ 16 + 1) ∙ rw (ne_eqb ((d % 2 ^ 16 + 1) % 2) 0 (omega facts))
       (ap (λ x. Valid (mem Word x a b)) (word_of_lem width16 false (d % 2 ^ 16 + 1 - 1) d q.0 (omega facts))))
 
-spells : (i : Insn) → in_range i ≡ true → Spells (halfwords i) i
+spells : (i : Insn) → in_range i ≡ true → Spells (Ok (halfwords i)) i
 unfolding halfwords in_range decode_fields decode_extended
 spells (Reg op a b) v =
     let r = both_true (is_reg a) (is_reg b) v in

@@ -1,8 +1,10 @@
 // From halfwords to instructions.
-ghost use Rattle.std.specs.Prelude.{◌≡◌, true, false, ℕ, ◌%◌, ◌^◌, ◌≤◌, ◌<◌, eqb};
-ghost use Rattle.insn.specs.Coding.{reg2_of, opcode_of, reg1_of, long, bit_op, loads, stores, when, disp7, disp9, disp22, decode_extended, decode_fields, decode};
+#![tactic(auto, unfolding(crate::specs::Coding::decode, crate::specs::Coding::decode_fields, crate::specs::Coding::decode_extended, crate::specs::Coding::reg_op, crate::specs::Coding::imm5_op, crate::specs::Coding::imm16_op, crate::specs::Coding::bit_op))]
 
-use crate::{BitOp, Decoded, HALFWORDS, Imm5Op, Imm16Op, Insn, RegOp, ShiftOp, Size};
+ghost use Rattle.std.specs.Prelude.{◌≡◌, true, false, cond, ℕ, ◌-◌, ◌%◌, ◌^◌, ◌≤◌, ◌<◌, eqb};
+ghost use Rattle.insn.specs.Coding.{reg2_of, opcode_of, reg1_of, long, bit_op, loads, stores, short_transfer, long_transfer, when, disp7, disp9, disp16, disp22, decode_extended, decode_fields, decode};
+
+use crate::{BitOp, Decoded, HALFWORD_VALUES, Imm5Op, Imm16Op, Insn, RegOp, ShiftOp, Size, Way};
 use word::extend;
 
 // A halfword's fields: bits 15-11, 10-5 and 4-0.
@@ -28,34 +30,47 @@ pub fn reg1_of(h: u32) -> u32
 pub fn is_long(first: u16) -> bool
     ensures { result ≡ long first }
 {
-    0b110000 <= first / 32 % 64
+    0b110000 <= opcode_of(u32::from(first))
 }
 
 // What a first halfword stands for, with the second one if the first is long; else the second is not looked at.
 pub fn decode(first: u16, second: u16) -> Decoded
     ensures { result ≡ decode first second }
 {
-    let h = first as u32;
+    let h = u32::from(first);
     let opcode = opcode_of(h);
     match opcode {
         0b000000..=0b101111 => short(h, reg2_of(h), opcode, reg1_of(h)),
-        _ => long(reg2_of(h), opcode, reg1_of(h), second as u32),
+        _ => long(reg2_of(h), opcode, reg1_of(h), u32::from(second)),
     }
 }
 
-// A short form, with its fields: opcodes up to 101111.
+// A short form, with its fields: opcodes up to 101111. The order names the form of this match, and of the next two: by the opcode's
+// number with ranges, then by the second halfword. The fields go one by one: a value like `Fields`, built anew for each call, is no
+// plainer.
 pub fn short(h: u32, reg2: u32, opcode: u32, reg1: u32) -> Decoded
     requires { (h < 2 ^ 16) × (reg2 ≡ reg2_of h) × (opcode ≡ opcode_of h) × (reg1 ≡ reg1_of h) × (opcode ≤ 0b101111) }
     ensures { (w : ℕ) → result ≡ decode h w }
 {
     match opcode {
         0b000000..=0b010111 => operation(reg2, opcode, reg1),
-        0b011000..=0b011011 => sld_byte(h),
-        0b011100..=0b011111 => sst_byte(h),
-        0b100000..=0b100011 => sld_half(h),
-        0b100100..=0b100111 => sst_half(h),
-        0b101000..=0b101011 => word(h),
-        _ => bcond(h),
+        0b011000..=0b011011 => short_transfer(Way::Load, Size::Byte, disp7(h), reg2),
+        0b011100..=0b011111 => short_transfer(Way::Store, Size::Byte, disp7(h), reg2),
+        0b100000..=0b100011 => short_transfer(Way::Load, Size::Half, disp7(h) * 2, reg2),
+        0b100100..=0b100111 => short_transfer(Way::Store, Size::Half, disp7(h) * 2, reg2),
+        0b101000..=0b101011 => {
+            // the two share their opcodes, and bit 0 says which
+            let disp = disp7(h) / 2 * 4;
+            if h % 2 == 0 {
+                short_transfer(Way::Load, Size::Word, disp, reg2)
+            } else {
+                short_transfer(Way::Store, Size::Word, disp, reg2)
+            }
+        }
+        _ => Decoded::Valid(Insn::Bcond {
+            cond: h % 16,
+            disp: disp9(h),
+        }),
     }
 }
 
@@ -81,69 +96,17 @@ pub fn operation(reg2: u32, opcode: u32, reg1: u32) -> Decoded
         0b001101 => reg(RegOp::Sub, reg1, reg2),
         0b001110 => reg(RegOp::Add, reg1, reg2),
         0b001111 => reg(RegOp::Cmp, reg1, reg2),
-        0b010000 => imm5(Imm5Op::Mov5, extend::sign5(reg1), reg2),
-        0b010001 => imm5(Imm5Op::Satadd5, extend::sign5(reg1), reg2),
-        0b010010 => imm5(Imm5Op::Add5, extend::sign5(reg1), reg2),
-        0b010011 => imm5(Imm5Op::Cmp5, extend::sign5(reg1), reg2),
-        0b010100 => imm5(Imm5Op::Shr5, extend::zero5(reg1), reg2),
-        0b010101 => imm5(Imm5Op::Sar5, extend::zero5(reg1), reg2),
-        0b010110 => imm5(Imm5Op::Shl5, extend::zero5(reg1), reg2),
-        0b010111 => imm5(Imm5Op::Mulh5, extend::sign5(reg1), reg2),
+        0b010000 => imm5(Imm5Op::Mov5, extend::sign_extend::<5>(reg1), reg2),
+        0b010001 => imm5(Imm5Op::Satadd5, extend::sign_extend::<5>(reg1), reg2),
+        0b010010 => imm5(Imm5Op::Add5, extend::sign_extend::<5>(reg1), reg2),
+        0b010011 => imm5(Imm5Op::Cmp5, extend::sign_extend::<5>(reg1), reg2),
+        0b010100 => imm5(Imm5Op::Shr5, extend::zero_extend::<5>(reg1), reg2),
+        0b010101 => imm5(Imm5Op::Sar5, extend::zero_extend::<5>(reg1), reg2),
+        0b010110 => imm5(Imm5Op::Shl5, extend::zero_extend::<5>(reg1), reg2),
+        0b010111 => imm5(Imm5Op::Mulh5, extend::sign_extend::<5>(reg1), reg2),
         // no opcode is left
         _ => Decoded::Undefined,
     }
-}
-
-// 011000-101011: short loads and stores.
-fn sld_byte(h: u32) -> Decoded
-    requires { (h < 2 ^ 16) × (0b011000 ≤ opcode_of h) × (opcode_of h < 0b011100) }
-    ensures { (w : ℕ) → result ≡ decode h w }
-{
-    sld(Size::Byte, disp7(h), reg2_of(h))
-}
-
-fn sst_byte(h: u32) -> Decoded
-    requires { (h < 2 ^ 16) × (0b011100 ≤ opcode_of h) × (opcode_of h < 0b100000) }
-    ensures { (w : ℕ) → result ≡ decode h w }
-{
-    sst(Size::Byte, disp7(h), reg2_of(h))
-}
-
-fn sld_half(h: u32) -> Decoded
-    requires { (h < 2 ^ 16) × (0b100000 ≤ opcode_of h) × (opcode_of h < 0b100100) }
-    ensures { (w : ℕ) → result ≡ decode h w }
-{
-    sld(Size::Half, disp7(h) * 2, reg2_of(h))
-}
-
-fn sst_half(h: u32) -> Decoded
-    requires { (h < 2 ^ 16) × (0b100100 ≤ opcode_of h) × (opcode_of h < 0b101000) }
-    ensures { (w : ℕ) → result ≡ decode h w }
-{
-    sst(Size::Half, disp7(h) * 2, reg2_of(h))
-}
-
-fn word(h: u32) -> Decoded
-    requires { (h < 2 ^ 16) × (0b101000 ≤ opcode_of h) × (opcode_of h < 0b101100) }
-    ensures { (w : ℕ) → result ≡ decode h w }
-{
-    let disp = disp7(h) / 2 * 4;
-    if h % 2 == 0 {
-        sld(Size::Word, disp, reg2_of(h))
-    } else {
-        sst(Size::Word, disp, reg2_of(h))
-    }
-}
-
-// 101100-101111.
-fn bcond(h: u32) -> Decoded
-    requires { (h < 2 ^ 16) × (0b101100 ≤ opcode_of h) × (opcode_of h < 0b110000) }
-    ensures { (w : ℕ) → result ≡ decode h w }
-{
-    Decoded::Valid(Insn::Bcond {
-        cond: h % 16,
-        disp: disp9(h),
-    })
 }
 
 // 110000-111111: the forms with a second halfword.
@@ -152,45 +115,53 @@ pub fn long(reg2: u32, opcode: u32, reg1: u32, w: u32) -> Decoded
     ensures { result ≡ decode_fields reg2 opcode reg1 w }
 {
     match opcode {
-        0b110000 => imm16(Imm16Op::Addi, extend::sign16(w), reg1, reg2),
-        0b110001 => imm16(Imm16Op::Movea, extend::sign16(w), reg1, reg2),
-        0b110010 => imm16(Imm16Op::Movhi, extend::zero16(w), reg1, reg2),
-        0b110011 => imm16(Imm16Op::Satsubi, extend::sign16(w), reg1, reg2),
-        0b110100 => imm16(Imm16Op::Ori, extend::zero16(w), reg1, reg2),
-        0b110101 => imm16(Imm16Op::Xori, extend::zero16(w), reg1, reg2),
-        0b110110 => imm16(Imm16Op::Andi, extend::zero16(w), reg1, reg2),
-        0b110111 => imm16(Imm16Op::Mulhi, extend::sign16(w), reg1, reg2),
-        0b111000 => ld(Size::Byte, extend::sign16(w), reg1, reg2),
-        0b111001 => {
-            // bit 0 says the size, and is none of the displacement's
-            let disp = extend::sign16(w / 2 * 2);
-            if w % 2 == 0 {
-                ld(Size::Half, disp, reg1, reg2)
-            } else {
-                ld(Size::Word, disp, reg1, reg2)
-            }
-        }
-        0b111010 => st(Size::Byte, extend::sign16(w), reg1, reg2),
-        0b111011 => {
-            // bit 0 says the size, and is none of the displacement's
-            let disp = extend::sign16(w / 2 * 2);
-            if w % 2 == 0 {
-                st(Size::Half, disp, reg1, reg2)
-            } else {
-                st(Size::Word, disp, reg1, reg2)
-            }
-        }
-        0b111100 => jarl(reg2, opcode, reg1, w),
-        0b111101 => jarl(reg2, opcode, reg1, w),
+        0b110000 => imm16(Imm16Op::Addi, extend::sign_extend::<16>(w), reg1, reg2),
+        0b110001 => imm16(Imm16Op::Movea, extend::sign_extend::<16>(w), reg1, reg2),
+        0b110010 => imm16(Imm16Op::Movhi, extend::zero_extend::<16>(w), reg1, reg2),
+        0b110011 => imm16(Imm16Op::Satsubi, extend::sign_extend::<16>(w), reg1, reg2),
+        0b110100 => imm16(Imm16Op::Ori, extend::zero_extend::<16>(w), reg1, reg2),
+        0b110101 => imm16(Imm16Op::Xori, extend::zero_extend::<16>(w), reg1, reg2),
+        0b110110 => imm16(Imm16Op::Andi, extend::zero_extend::<16>(w), reg1, reg2),
+        0b110111 => imm16(Imm16Op::Mulhi, extend::sign_extend::<16>(w), reg1, reg2),
+        0b111000 => long_transfer(
+            Way::Load,
+            Size::Byte,
+            extend::sign_extend::<16>(w),
+            reg1,
+            reg2,
+        ),
+        0b111001 => half_or_word(Way::Load, reg1, reg2, w),
+        0b111010 => long_transfer(
+            Way::Store,
+            Size::Byte,
+            extend::sign_extend::<16>(w),
+            reg1,
+            reg2,
+        ),
+        0b111011 => half_or_word(Way::Store, reg1, reg2, w),
+        0b111100 | 0b111101 => jarl(reg2, opcode, reg1, w),
         0b111110 => Decoded::Valid(Insn::Bit {
             op: bit_op(reg2 / 8),
             bit: reg2 % 8,
-            disp: extend::sign16(w),
+            disp: extend::sign_extend::<16>(w),
             reg1,
         }),
         0b111111 => extended(reg2, reg1, w),
         // no opcode is left
         _ => Decoded::Undefined,
+    }
+}
+
+// LD and ST of halfwords and words: bit 0 says the size, and is none of the displacement's.
+fn half_or_word(way: Way, reg1: u32, reg2: u32, w: u32) -> Decoded
+    requires { w < 2 ^ 16 }
+    ensures { result ≡ Decoded.Valid (cond (eqb (w % 2) 0) (long_transfer way Size.Half (disp16 w) reg1 reg2) (long_transfer way Size.Word (disp16 (w - 1)) reg1 reg2)) }
+{
+    let disp = extend::sign_extend::<16>(w / 2 * 2);
+    if w % 2 == 0 {
+        long_transfer(way, Size::Half, disp, reg1, reg2)
+    } else {
+        long_transfer(way, Size::Word, disp, reg1, reg2)
     }
 }
 
@@ -257,7 +228,8 @@ fn when(right: bool, i: Insn) -> Decoded
     }
 }
 
-// Instructions with several operations or sizes.
+// Instructions with several operations or sizes. Each function makes another case of `Insn`: a generic one would need a trait that says
+// which, with an impl for each, and be no plainer.
 fn reg(op: RegOp, reg1: u32, reg2: u32) -> Decoded
     ensures { result ≡ Decoded.Valid (Insn.Reg op reg1 reg2) }
 {
@@ -270,16 +242,13 @@ fn imm5(op: Imm5Op, imm: u32, reg2: u32) -> Decoded
     Decoded::Valid(Insn::Imm5 { op, imm, reg2 })
 }
 
-fn sld(size: Size, disp: u32, reg2: u32) -> Decoded
-    ensures { result ≡ Decoded.Valid (Insn.Sld size disp reg2) }
+fn short_transfer(way: Way, size: Size, disp: u32, reg2: u32) -> Decoded
+    ensures { result ≡ Decoded.Valid (short_transfer way size disp reg2) }
 {
-    Decoded::Valid(Insn::Sld { size, disp, reg2 })
-}
-
-fn sst(size: Size, disp: u32, reg2: u32) -> Decoded
-    ensures { result ≡ Decoded.Valid (Insn.Sst size disp reg2) }
-{
-    Decoded::Valid(Insn::Sst { size, disp, reg2 })
+    Decoded::Valid(match way {
+        Way::Load => Insn::Sld { size, disp, reg2 },
+        Way::Store => Insn::Sst { size, disp, reg2 },
+    })
 }
 
 fn imm16(op: Imm16Op, imm: u32, reg1: u32, reg2: u32) -> Decoded
@@ -293,25 +262,22 @@ fn imm16(op: Imm16Op, imm: u32, reg1: u32, reg2: u32) -> Decoded
     })
 }
 
-fn ld(size: Size, disp: u32, reg1: u32, reg2: u32) -> Decoded
-    ensures { result ≡ Decoded.Valid (Insn.Ld size disp reg1 reg2) }
+fn long_transfer(way: Way, size: Size, disp: u32, reg1: u32, reg2: u32) -> Decoded
+    ensures { result ≡ Decoded.Valid (long_transfer way size disp reg1 reg2) }
 {
-    Decoded::Valid(Insn::Ld {
-        size,
-        disp,
-        reg1,
-        reg2,
-    })
-}
-
-fn st(size: Size, disp: u32, reg1: u32, reg2: u32) -> Decoded
-    ensures { result ≡ Decoded.Valid (Insn.St size disp reg1 reg2) }
-{
-    Decoded::Valid(Insn::St {
-        size,
-        disp,
-        reg1,
-        reg2,
+    Decoded::Valid(match way {
+        Way::Load => Insn::Ld {
+            size,
+            disp,
+            reg1,
+            reg2,
+        },
+        Way::Store => Insn::St {
+            size,
+            disp,
+            reg1,
+            reg2,
+        },
     })
 }
 
@@ -329,20 +295,22 @@ fn disp7(h: u32) -> u32
 }
 
 // The upper field has the sign, so it alone is extended: that is shorter than to put all bits together first.
+#[tactic(auto, unfolding(word::specs::Extend::by_sign))]
 fn disp9(h: u32) -> u32
     requires { h < 2 ^ 16 }
     ensures { result ≡ disp9 (reg2_of h) (opcode_of h) (reg1_of h) }
 {
-    (extend::sign5(h / 2048) << 4) + h / 16 % 8 * 2
+    (extend::sign_extend::<5>(h / 2048) << 4) + h / 16 % 8 * 2
 }
 
 fn disp22(opcode: u32, reg1: u32, w: u32) -> u32
     requires { (reg1 < 32) × (w < 2 ^ 16) }
     ensures { result ≡ disp22 opcode reg1 w }
 {
-    extend::sign22((opcode % 2 * 32 + reg1) * HALFWORDS + w)
+    extend::sign_extend::<22>((opcode % 2 * 32 + reg1) * HALFWORD_VALUES + w)
 }
 
+// Two bits always name an operation, so there is no TryFrom: its error could not come, and would cost the step a branch.
 fn bit_op(n: u32) -> BitOp
     requires { n < 4 }
     ensures { result ≡ bit_op n }

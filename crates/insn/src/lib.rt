@@ -1,73 +1,75 @@
-// The instructions of the base, and the halfwords that spell them.
+// The instructions of the base, and the halfwords that spell them. The number of an operation is the field that spells it: the opcode,
+// at shifts by a register the second halfword, at bits of memory bits 15-14.
 #![tactic(auto)]
 
 pub mod decode;
 pub mod encode;
+mod fields;
 
-// How many halfwords there are.
-pub(crate) const HALFWORDS: u32 = 0x10000;
+// How many values a halfword has.
+pub(crate) const HALFWORD_VALUES: u32 = 0x10000;
 
 // Format I: register and register. JMP, which has one operand, is an instruction of its own.
 #[derive(Clone, Copy)]
 pub enum RegOp {
-    Mov,
-    Not,
-    Divh,
-    Satsubr,
-    Satsub,
-    Satadd,
-    Mulh,
-    Or,
-    Xor,
-    And,
-    Tst,
-    Subr,
-    Sub,
-    Add,
-    Cmp,
+    Mov = 0b000000,
+    Not = 0b000001,
+    Divh = 0b000010,
+    Satsubr = 0b000100,
+    Satsub = 0b000101,
+    Satadd = 0b000110,
+    Mulh = 0b000111,
+    Or = 0b001000,
+    Xor = 0b001001,
+    And = 0b001010,
+    Tst = 0b001011,
+    Subr = 0b001100,
+    Sub = 0b001101,
+    Add = 0b001110,
+    Cmp = 0b001111,
 }
 
 // Format II: a 5-bit immediate and a register. The 5 in a name tells it from the register form.
 #[derive(Clone, Copy)]
 pub enum Imm5Op {
-    Mov5,
-    Satadd5,
-    Add5,
-    Cmp5,
-    Shr5,
-    Sar5,
-    Shl5,
-    Mulh5,
+    Mov5 = 0b010000,
+    Satadd5 = 0b010001,
+    Add5 = 0b010010,
+    Cmp5 = 0b010011,
+    Shr5 = 0b010100,
+    Sar5 = 0b010101,
+    Shl5 = 0b010110,
+    Mulh5 = 0b010111,
 }
 
 // Format VI: a 16-bit immediate, a register and a target.
 #[derive(Clone, Copy)]
 pub enum Imm16Op {
-    Addi,
-    Movea,
-    Movhi,
-    Satsubi,
-    Ori,
-    Xori,
-    Andi,
-    Mulhi,
+    Addi = 0b110000,
+    Movea = 0b110001,
+    Movhi = 0b110010,
+    Satsubi = 0b110011,
+    Ori = 0b110100,
+    Xori = 0b110101,
+    Andi = 0b110110,
+    Mulhi = 0b110111,
 }
 
 // Format IX: shifts by a register.
 #[derive(Clone, Copy)]
 pub enum ShiftOp {
-    Shr,
-    Sar,
-    Shl,
+    Shr = 0x0080,
+    Sar = 0x00A0,
+    Shl = 0x00C0,
 }
 
 // Format VIII: bits of a byte in memory.
 #[derive(Clone, Copy)]
 pub enum BitOp {
-    Set1,
-    Not1,
-    Clr1,
-    Tst1,
+    Set1 = 0b00,
+    Not1 = 0b01,
+    Clr1 = 0b10,
+    Tst1 = 0b11,
 }
 
 #[derive(Clone, Copy)]
@@ -75,6 +77,13 @@ pub enum Size {
     Byte,
     Half,
     Word,
+}
+
+// Which way a transfer between a register and memory goes, by the bit that says so.
+#[derive(Clone, Copy)]
+pub(crate) enum Way {
+    Load = 0,
+    Store = 1,
 }
 
 // An instruction and its operands. Immediates and displacements are the words that they stand for, a negative one in two's
@@ -162,7 +171,8 @@ pub enum Insn {
     Ei,
 }
 
-// What a halfword, or two, stand for.
+// What a halfword, or two, stand for. The order names this form: an enum whose instruction case holds the instruction, beside illegal
+// code and undefined. These two are answers and no errors: a step takes the exception for the one, and ends the run at the other.
 #[derive(Clone, Copy)]
 pub enum Decoded {
     Valid(Insn),
@@ -170,10 +180,15 @@ pub enum Decoded {
     Undefined,
 }
 
-// An instruction's halfwords, or the refusal FIELD.
-#[derive(Clone, Copy)]
-pub enum Encoded {
+// The halfwords that spell an instruction.
+#[derive(Clone, Copy, PartialEq, Eq)]
+pub enum Halfwords {
     One(u16),
     Two(u16, u16),
+}
+
+// Why an instruction has none: an operand is out of its range.
+#[derive(Clone, Copy, PartialEq, Eq)]
+pub enum EncodeError {
     Field,
 }

@@ -22,18 +22,10 @@
 //   0180 0181 0200 07ff 7fff 8180 ffff   bits 26-23 from 0011 up: 1,024 illegal
 #![tactic(auto)]
 
-ghost use Rattle.std.specs.Prelude.{◌≤◌};
-
-use insn::{Decoded, Encoded, decode, encode};
+use insn::decode::{decode, is_long};
+use insn::encode::encode;
+use insn::{Decoded, Halfwords};
 use std::io;
-
-const INSTRUCTION: u32 = 0;
-
-const ILLEGAL: u32 = 1;
-
-const UNDEFINED: u32 = 2;
-
-const MISMATCH: u32 = 3;
 
 const SECONDS: [u16; 26] = [
     0x0000, 0x0001, 0x0020, 0x0040, 0x0060, 0x0080, 0x00A0, 0x00C0, 0x00E0, 0x0100, 0x0120, 0x0140,
@@ -41,77 +33,59 @@ const SECONDS: [u16; 26] = [
     0xF840, 0xFFFF,
 ];
 
+// What a pair of halfwords is. A mismatch is an instruction that is not encoded as the pair that it came from.
+#[derive(Clone, Copy, PartialEq, Eq)]
+enum Kind {
+    Instruction,
+    Illegal,
+    Undefined,
+    Mismatch,
+}
+
+const KINDS: [Kind; 4] = [
+    Kind::Instruction,
+    Kind::Illegal,
+    Kind::Undefined,
+    Kind::Mismatch,
+];
+
 fn main(rt: HostRuntime) -> io::Result<()> {
-    let mut k: usize = 0;
-    while k < SECONDS.len() {
-        walk(&rt, SECONDS[k])?;
-        k += 1;
+    for second in SECONDS {
+        print!(rt; "{second:04x}")?;
+        for kind in KINDS {
+            print!(rt; " {}", count(kind, second))?;
+        }
+        println!(rt)?;
     }
     Ok(())
 }
 
-// All first halfwords with one second halfword.
-fn walk(rt: &impl Print, second: u16) -> io::Result<()> {
-    let mut instructions: u32 = 0;
-    let mut illegal: u32 = 0;
-    let mut undefined: u32 = 0;
-    let mut mismatches: u32 = 0;
-    let mut first: u32 = 0;
-    while first < 0x10000 {
-        let answer = judge(first as u16, second);
-        instructions += one_if_same(answer, INSTRUCTION);
-        illegal += one_if_same(answer, ILLEGAL);
-        undefined += one_if_same(answer, UNDEFINED);
-        mismatches += one_if_same(answer, MISMATCH);
-        first += 1;
-    }
-    line(rt, second, instructions, illegal, undefined, mismatches)
+// How many first halfwords are of a kind, with one second halfword.
+fn count(kind: Kind, second: u16) -> usize {
+    (0..=u16::MAX)
+        .filter(|first| kind_of(*first, second) == kind)
+        .count()
 }
 
-fn judge(first: u16, second: u16) -> u32 {
-    match decode::decode(first, second) {
-        Decoded::Valid(i) => {
-            if spells(encode::encode(i), first, second) {
-                INSTRUCTION
+fn kind_of(first: u16, second: u16) -> Kind {
+    match decode(first, second) {
+        Decoded::Valid(insn) => {
+            if encode(insn) == Ok(halfwords(first, second)) {
+                Kind::Instruction
             } else {
-                MISMATCH
+                Kind::Mismatch
             }
         }
-        Decoded::Illegal => ILLEGAL,
-        Decoded::Undefined => UNDEFINED,
+        Decoded::Illegal => Kind::Illegal,
+        Decoded::Undefined => Kind::Undefined,
     }
 }
 
-fn spells(e: Encoded, first: u16, second: u16) -> bool {
-    match e {
-        Encoded::One(h) => h == first && !decode::is_long(first),
-        Encoded::Two(h, w) => h == first && w == second && decode::is_long(first),
-        Encoded::Field => false,
+// The halfwords of the instruction that a pair begins with.
+fn halfwords(first: u16, second: u16) -> Halfwords {
+    if is_long(first) {
+        Halfwords::Two(first, second)
+    } else {
+        Halfwords::One(first)
     }
-}
-
-fn one_if_same(a: u32, b: u32) -> u32
-    ensures { result ≤ 1 }
-{
-    if a == b { 1 } else { 0 }
-}
-
-fn line(
-    rt: &impl Print,
-    second: u16,
-    instructions: u32,
-    illegal: u32,
-    undefined: u32,
-    mismatches: u32,
-) -> io::Result<()> {
-    print!(rt; "{second:04x}")?;
-    column(rt, instructions)?;
-    column(rt, illegal)?;
-    column(rt, undefined)?;
-    column(rt, mismatches)?;
-    println!(rt)
-}
-
-fn column(rt: &impl Print, n: u32) -> io::Result<()> {
-    print!(rt; " {n}")
 }

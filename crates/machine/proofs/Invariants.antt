@@ -1,6 +1,6 @@
 -- What every step keeps: a refused step changes nothing, a well-formed state leads to well-formed states, and memory keeps its size.
 -- The theorems stand at the end.
-use Rattle.std.specs.Prelude.{◌≡◌, Bool, true, false, cond, ◌&&◌, ◌||◌, List, ◌⊎◌, ℕ, zero, suc, ◌+◌, ◌-◌, ◌*◌, ◌/◌, ◌%◌, ◌^◌, ◌≤◌, ◌<◌, ltb, leb, get_or, length, replicate}
+use Rattle.std.specs.Prelude.{◌≡◌, Ok, Err, Bool, true, false, cond, ◌&&◌, ◌||◌, List, ◌⊎◌, ℕ, zero, suc, ◌+◌, ◌-◌, ◌*◌, ◌/◌, ◌%◌, ◌^◌, ◌≤◌, ◌<◌, ltb, leb, get_or, length, replicate}
 use Rattle.std.proofs.Math.Path.{refl}
 use Rattle.std.proofs.Common.{sym, subst, inl, inr, arith, eqb→eq, ltb→lt, pow_mono}
 use Rattle.std.proofs.Math.Dec.{T, eqb}
@@ -19,8 +19,7 @@ use Rattle.insn.specs.declared.Decoded.TheVariants as decoded
 use Rattle.insn.specs.Coding.{long, decode, is_condition, is_signed, is_unsigned, multiple, imm5_shifts, imm16_plain, in_range}
 use Rattle.insn.specs.RoundTrip.{decode_in_range}
 use Rattle.machine.specs.declared.Open.{Open}
-use Rattle.machine.specs.declared.Answer.{Answer}
-use Rattle.machine.specs.declared.Went.TheVariants.{Next, Stop}
+use Rattle.machine.specs.declared.Refusal.{Refusal}
 use Rattle.machine.specs.Marked.{Cells, cell}
 use Rattle.machine.specs.Psw.{REGS, EIPC, EIPSW, FEPC, FEPSW, ECR, PSW, sys, CELLS, reg, ELEMENT, bits, bits_at, condition, psw, mode}
 use Rattle.machine.specs.Memory.{changed, tests}
@@ -311,8 +310,8 @@ mark_limit_pos i =
 -- THE THEOREMS
 
 -- A refused step changes nothing: no number and no mark, of the cells and of memory.
-pub refused_changes_nothing : (map : List ℕ) (o : Open) (c m : Cells) (answer : Answer) (place : ℕ)
-    → (step map o c m).went ≡ Stop answer place → ((step map o c m).cells ≡ c) × ((step map o c m).mem ≡ m)
+pub refused_changes_nothing : (map : List ℕ) (o : Open) (c m : Cells) (r : Refusal)
+    → (step map o c m).went ≡ Err r → ((step map o c m).cells ≡ c) × ((step map o c m).mem ≡ m)
 refused_changes_nothing map o c m = (step_keeps map o c (same m)).stopped
 
 -- A refused step is answered by a number from 4 on, and a run by one of these or by DONE: SIZE, MAP and STATE are none of them.
@@ -325,7 +324,7 @@ run_answers (suc budget) n map o c m =
 
 -- A step from a well-formed state leads to one, and from bytes to bytes.
 pub step_well_formed : (map : List ℕ) (o : Open) (c m : Cells) → WellFormed o c → Bytes m
-    → (o' : Open) → (step map o c m).went ≡ Next o' → WellFormed o' (step map o c m).cells × Bytes (step map o c m).mem
+    → (o' : Open) → (step map o c m).went ≡ Ok o' → WellFormed o' (step map o c m).cells × Bytes (step map o c m).mem
 step_well_formed map o c m w b o' e =
     let s = (step-formed map (record { formed = w; bytes = b })).went o' e in (s.formed, s.bytes)
 

@@ -1,5 +1,5 @@
 -- Demand 3: a run tells nothing of what is marked. Two states that differ in marked values alone stay so in every step, and two runs from them end alike.
-use Rattle.std.specs.Prelude.{◌≡◌, refl, Bool, cond, List, ℕ, zero, suc, ◌/◌, ◌%◌, ◌^◌, eqb}
+use Rattle.std.specs.Prelude.{◌≡◌, refl, Option, Some, None, Ok, Err, Bool, cond, List, ℕ, zero, suc, ◌/◌, ◌%◌, ◌^◌, eqb}
 use Rattle.std.proofs.Math.Bool.{true, false}
 use Rattle.insn.specs.declared.Size.{Size}
 use Rattle.insn.specs.declared.BitOp.{BitOp}
@@ -11,16 +11,12 @@ use Rattle.machine.specs.declared.Tv.{Tv}
 use Rattle.machine.specs.declared.Open.{Open}
 use Rattle.machine.specs.declared.Answer.{Answer}
 use Rattle.machine.specs.declared.Answer.TheVariants.{Leak}
-use Rattle.machine.specs.declared.Went.{Went}
-use Rattle.machine.specs.declared.Went.TheVariants.{Next, Stop}
-use Rattle.machine.specs.declared.Spot.{Spot}
-use Rattle.machine.specs.declared.Spot.TheVariants.{At, Nowhere}
 use Rattle.machine.specs.declared.Op.{Op}
 use Rattle.machine.specs.Marked.{Cells}
 use Rattle.machine.specs.Psw.{sys}
 use Rattle.machine.specs.Regions.{find}
 use Rattle.machine.specs.Operations.{operation, operate}
-use Rattle.machine.specs.Step.{Outcome, after, refuse, reveal, place, on_spot, load, store, tested, bitwise, jmp, jarl, bcond, ldsr, system}
+use Rattle.machine.specs.Step.{Went, Outcome, after, refuse, reveal, place, on_spot, load, store, tested, bitwise, jmp, jarl, bcond, ldsr, system}
 use Rattle.machine.specs.Step.{exception, trap, illegal, return, reti, exec, execute, fetch, instruction, take_nmi, take_code, step}
 use Rattle.machine.specs.Run.{Ended, carry, run}
 use Rattle.machine.specs.Alike.{bit_cells, no_bit_cells, Alike, AlikeEnds}
@@ -45,7 +41,7 @@ module _ {c d m n : Cells} (h : TwinCells c d) (g : TwinMems m n) where
   reveal-alike : (o : Open) {a b : Tv} {k l : ℕ → Outcome} → AlikeTv a b → ((w : ℕ) → TwinOutcomes (k w) (l w))
       → TwinOutcomes (reveal o c m a k) (reveal o d n b l)
   unfolding reveal
-  reveal-alike o (AlikeTv.same true p) f = same (Stop Leak o.pc) h g
+  reveal-alike o (AlikeTv.same true p) f = same (Err (record { answer = Leak; place = o.pc })) h g
   reveal-alike o (AlikeTv.same false {w = w} p) f = rw (p refl) (f w)
 
   place-alike : (map : List ℕ) (right : ℕ) (answer : Answer) (a : ℕ) {k l : ℕ → Outcome} → ((p : ℕ) → TwinOutcomes (k p) (l p))
@@ -53,9 +49,9 @@ module _ {c d m n : Cells} (h : TwinCells c d) (g : TwinMems m n) where
   unfolding place
   place-alike map right answer a {k} {l} f = on (find map right a)
     where
-      on : (s : Spot) → TwinOutcomes (on_spot s (refuse answer a c m) k) (on_spot s (refuse answer a d n) l)
-      on (At p) = f p
-      on Nowhere = same (Stop answer a) h g
+      on : (s : Option ℕ) → TwinOutcomes (on_spot s (refuse answer a c m) k) (on_spot s (refuse answer a d n) l)
+      on (Some p) = f p
+      on None = same (Err (record { answer = answer; place = a })) h g
 
 -- Operations, whatever their table says
 operate-alike : (op : Op) (r : ℕ) {x y v w : Tv} {c d : Cells} → AlikeTv x v → AlikeTv y w → TwinCells c d
@@ -149,8 +145,8 @@ carry-alike : (go : Open → Cells → Cells → Ended) (k : ℕ) (o : Open)
     → ((o : Open) (c d m n : Cells) → TwinCells c d → TwinMems m n → AlikeEnds (go o c m) (go o d n))
     → {x y : Outcome} → TwinOutcomes x y → AlikeEnds (carry go k o x) (carry go k o y)
 unfolding carry
-carry-alike go k o f (same (Next p) {c} {d} {m} {n} h g) = f p c d m n h g
-carry-alike go k o f (same (Stop a p) h g) = record { ran = refl; cells = alike h; mem = alike g }
+carry-alike go k o f (same (Ok p) {c} {d} {m} {n} h g) = f p c d m n h g
+carry-alike go k o f (same (Err r) h g) = record { ran = refl; cells = alike h; mem = alike g }
 
 run-alike : (budget k : ℕ) (map : List ℕ) (o : Open) {c d m n : Cells} → TwinCells c d → TwinMems m n
     → AlikeEnds (run budget k map o c m) (run budget k map o d n)

@@ -1,5 +1,5 @@
 -- Laws behind the invariants: of lists and cells, of what is never marked, of bytes, and of steps that end or are refused.
-use Rattle.std.specs.Prelude.{◌≡◌, refl, Bool, true, false, cond, ◌&&◌, List, [], ◌∷◌, ◌⊎◌, ℕ, zero, suc, ◌+◌, ◌-◌, ◌*◌, ◌/◌, ◌%◌, ◌^◌, ◌≤◌, ◌<◌, T, eqb, leb, get_or, set, length}
+use Rattle.std.specs.Prelude.{◌≡◌, refl, Option, Some, None, Ok, Err, Bool, true, false, cond, ◌&&◌, List, [], ◌∷◌, ◌⊎◌, ℕ, zero, suc, ◌+◌, ◌-◌, ◌*◌, ◌/◌, ◌%◌, ◌^◌, ◌≤◌, ◌<◌, T, eqb, leb, get_or, set, length}
 use Rattle.std.proofs.Common.{sym, ◌∙◌, subst, inl, inr, arith, eqb→eq, leb→le, length-set, get_or-set_other, leb-true, lt-ltb}
 use Rattle.std.proofs.lemmas.Nat.{and_le_l, or_lt, xor_lt}
 use Rattle.std.specs.Int.Bits.{and_lt}
@@ -22,16 +22,13 @@ use Rattle.machine.specs.declared.Kind.{Kind}
 use Rattle.machine.specs.declared.Op.{Op}
 use Rattle.machine.specs.declared.Op.TheVariants.{Mov, Not, Divh, Satsubr, Satsub, Satadd, Mulh, Or, Xor, And, Andi, Tst, Subr, Sub, Add, Cmp, Shr, Sar, Shl, Movea, Movhi}
 use Rattle.machine.specs.declared.Answer.{Answer}
-use Rattle.machine.specs.declared.Went.{Went}
-use Rattle.machine.specs.declared.Went.TheVariants.{Next, Stop}
-use Rattle.machine.specs.declared.Spot.{Spot}
-use Rattle.machine.specs.declared.Spot.TheVariants.{At, Nowhere}
+use Rattle.machine.specs.declared.Refusal.{Refusal}
 use Rattle.machine.specs.Marked.{plain, lift1, vals, mark_of, Cells, both, cell, put, edit}
 use Rattle.machine.specs.Psw.{REGS, reg, put_reg, Bits, EIPC, EIPSW, FEPC, FEPSW, PSW, sys, flags, flag_marks, put_flags, rules_of, follow_all, told, every_flag, quiet, set_flags, with_z, set_z, condition, psw, put_bits, put_psw_flags, spread}
 use Rattle.machine.specs.Regions.{find}
 use Rattle.machine.specs.Memory.{bytes_at, little_endian, extended, byte_of, put_bytes, changed}
 use Rattle.machine.specs.Operations.{operation, second, operate}
-use Rattle.machine.specs.Step.{Outcome, next, refuse, goto, plus, modes, cause, waits, fecc, eicc, reveal, on_spot, place, save_pc, save_psw, step}
+use Rattle.machine.specs.Step.{Went, Outcome, next, refuse, goto, plus, modes, cause, waits, fecc, eicc, reveal, on_spot, place, save_pc, save_psw, step}
 use Rattle.machine.specs.Run.{number, Ended, ended, on_went, carry, run}
 use Rattle.machine.specs.WellFormed.{limit, mark_limit, good_code, Bytes, GoodCells, GoodOpen}
 
@@ -280,22 +277,22 @@ States = Open → Cells → Cells → Type 0
 
 -- A step that leads to a state of which P holds, or is refused and changes nothing
 pub record Ends (P : States) (c m : Cells) (x : Outcome) : Type 0 where
-  pub went : (o' : Open) → x.went ≡ Next o' → P o' x.cells x.mem
-  pub stopped : (a : Answer) (p : ℕ) → x.went ≡ Stop a p → (x.cells ≡ c) × (x.mem ≡ m)
-  pub answer : (a : Answer) (p : ℕ) → x.went ≡ Stop a p → leb 4 (number a) ≡ true
+  pub went : (o' : Open) → x.went ≡ Ok o' → P o' x.cells x.mem
+  pub stopped : (r : Refusal) → x.went ≡ Err r → (x.cells ≡ c) × (x.mem ≡ m)
+  pub answer : (r : Refusal) → x.went ≡ Err r → leb 4 (number r.answer) ≡ true
 
-never : {A : Type 0} {o : Open} {a : Answer} {p : ℕ} → Next o ≡ Stop a p → A
+never : {A : Type 0} {o : Open} {r : Refusal} → ◌≡◌ {A = Went} (Ok o) (Err r) → A
 never e = let z : ◌≡◌ {A = ℕ} 0 1 = cc in absurd (omega arith)
 
 pub next-ends : {P : States} {c m c' m' : Cells} {o' : Open} → P o' c' m' → Ends P c m (next o' c' m')
-next-ends {P} {c' = c'} {m' = m'} h = record { went = λ o e. subst (λ (q : Open). P q c' m') (cc) h; stopped = λ a p e. never e; answer = λ a p e. never e }
+next-ends {P} {c' = c'} {m' = m'} h = record { went = λ o e. subst (λ (q : Open). P q c' m') (cc) h; stopped = λ r e. never e; answer = λ r e. never e }
 
 pub refuse-ends : {P : States} {c m : Cells} (a : Answer) (p : ℕ) → leb 4 (number a) ≡ true → Ends P c m (refuse a p c m)
 refuse-ends a p h =
     record {
       went = λ o e. never (sym e);
-      stopped = λ b q e. (refl, refl);
-      answer = λ b q e. let s : a ≡ b = cc in subst (λ (k : Answer). leb 4 (number k) ≡ true) s h;
+      stopped = λ r e. (refl, refl);
+      answer = λ r e. let s : a ≡ r.answer = cc in subst (λ (k : Answer). leb 4 (number k) ≡ true) s h;
     }
 
 pub cond_ends : {P : States} {c m : Cells} (t : Bool) {x y : Outcome} → Ends P c m x → Ends P c m y → Ends P c m (cond t x y)
@@ -311,17 +308,17 @@ pub place-ends : {P : States} {c m : Cells} (map : List ℕ) (right : ℕ) (answ
 unfolding place
 place-ends {P} {c} {m} map right answer a k l h = go (find map right a)
   where
-    go : (s : Spot) → Ends P c m (on_spot s (refuse answer a c m) k)
-    go (At p) = h p
-    go Nowhere = refuse-ends answer a l
+    go : (s : Option ℕ) → Ends P c m (on_spot s (refuse answer a c m) k)
+    go (Some p) = h p
+    go None = refuse-ends answer a l
 
 -- what holds of memory before a step and after one that ends well holds of it in any case
 pub any_end : (Q : Cells → Type 0) {c m : Cells} {x : Outcome} → Q m → Ends (λ o' c' m'. Q m') c m x → Q x.mem
 any_end Q {x = x} h e = go x.went refl
   where
     go : (w : Went) → x.went ≡ w → Q x.mem
-    go (Next p) q = e.went p q
-    go (Stop a p) q = subst Q (sym (e.stopped a p q).1) h
+    go (Ok p) q = e.went p q
+    go (Err r) q = subst Q (sym (e.stopped r q).1) h
 
 -- A run answers DONE, or what a refused step answers
 abbrev pub Answered : Ended → Type 0
@@ -332,9 +329,9 @@ pub carry_answers : (go : Open → Cells → Cells → Ended) (n : ℕ) (o : Ope
 unfolding carry
 carry_answers go n o f x e = by x.went refl
   where
-    by : (w : Went) → x.went ≡ w → Answered (on_went w (λ p. go p x.cells x.mem) (λ a p. ended a p n o x.cells x.mem))
-    by (Next p) q = f p x.cells x.mem
-    by (Stop a p) q = inr (leb-true 4 (number a) (e.answer a p q))
+    by : (w : Went) → x.went ≡ w → Answered (on_went w (λ p. go p x.cells x.mem) (λ r. ended r.answer r.place n o x.cells x.mem))
+    by (Ok p) q = f p x.cells x.mem
+    by (Err r) q = inr (leb-true 4 (number r.answer) (e.answer r q))
 
 -- What every step keeps holds at the end of a run
 abbrev pub AtEnd : States → Ended → Type 0
@@ -346,10 +343,10 @@ carry-holds : (P : States) (go : Open → Cells → Cells → Ended) (n : ℕ)
 unfolding carry
 carry-holds P go n f o c m h x e = by x.went refl
   where
-    by : (w : Went) → x.went ≡ w → AtEnd P (on_went w (λ p. go p x.cells x.mem) (λ a p. ended a p n o x.cells x.mem))
-    by (Next p) q = f p x.cells x.mem (e.went p q)
-    by (Stop a p) q =
-        let z = e.stopped a p q in
+    by : (w : Went) → x.went ≡ w → AtEnd P (on_went w (λ p. go p x.cells x.mem) (λ r. ended r.answer r.place n o x.cells x.mem))
+    by (Ok p) q = f p x.cells x.mem (e.went p q)
+    by (Err r) q =
+        let z = e.stopped r q in
         subst (λ (k : Cells). P o x.cells k) (sym z.1) (subst (λ (k : Cells). P o k m) (sym z.0) h)
 
 pub run_holds : (P : States) (map : List ℕ) → ((o : Open) (c m : Cells) → P o c m → Ends P c m (step map o c m))

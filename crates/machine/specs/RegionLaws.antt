@@ -1,12 +1,10 @@
 -- A good map: an operand that is found lies in memory whole, and in one place.
-use Rattle.std.specs.Prelude.{◌≡◌, refl, Bool, true, false, cond, ◌||◌, List, ℕ, zero, suc, ◌+◌, ◌-◌, ◌/◌, ◌%◌, ◌^◌, ◌≤◌, ◌<◌, eqb, ltb}
+use Rattle.std.specs.Prelude.{◌≡◌, refl, Option, Some, Bool, true, false, cond, ◌||◌, List, ℕ, zero, suc, ◌+◌, ◌-◌, ◌/◌, ◌%◌, ◌^◌, ◌≤◌, ◌<◌, eqb, ltb}
 use Rattle.std.proofs.Common.{sym, ap, ◌∙◌, arith, ltb-true, ltb-false, leb-true, eqb-true, ne_eqb}
 use Rattle.std.proofs.lemmas.Bool.{lt-leb}
 use Rattle.word.specs.Tests.{both_true}
 use Rattle.insn.specs.declared.Size.{Size}
 use Rattle.insn.specs.declared.Size.TheVariants.{Byte, Half, Word}
-use Rattle.machine.specs.declared.Spot.{Spot}
-use Rattle.machine.specs.declared.Spot.TheVariants.{At}
 use Rattle.machine.specs.Regions.{base, size, offset, rights, covers, find_from, find, unused, bounded, good_region, separate, good_map}
 use Rattle.machine.specs.Memory.{width, aligned}
 
@@ -59,19 +57,19 @@ pub record Found (map : List ℕ) (right a p : ℕ) : Type 0 where
   pub covers : Covers map right a region
   pub place : p ≡ offset map region + (a - base map region)
 
-found_from : (map : List ℕ) (right a p m k : ℕ) → k + m ≤ 4 → find_from map right a m k ≡ At p → Found map right a p
+found_from : (map : List ℕ) (right a p m k : ℕ) → k + m ≤ 4 → find_from map right a m k ≡ Some p → Found map right a p
 unfolding find_from
 found_from map right a p zero k l e = let z : ◌≡◌ {A = ℕ} 0 1 = cc in absurd (omega arith)
 found_from map right a p (suc m) k l e = go (covers map right a k) refl e (found_from map right a p m (suc k) (omega arith))
   where
     go : (t : Bool) → covers map right a k ≡ t
-        → cond t (At (offset map k + (a - base map k))) (find_from map right a m (suc k)) ≡ At p
-        → (find_from map right a m (suc k) ≡ At p → Found map right a p)
+        → cond t (Some (offset map k + (a - base map k))) (find_from map right a m (suc k)) ≡ Some p
+        → (find_from map right a m (suc k) ≡ Some p → Found map right a p)
         → Found map right a p
     go true h e rest = record { region = k; one_of = omega arith; covers = covered map right a k h; place = cc }
     go false h e rest = rest e
 
-pub found : (map : List ℕ) (right a p : ℕ) → find map right a ≡ At p → Found map right a p
+pub found : (map : List ℕ) (right a p : ℕ) → find map right a ≡ Some p → Found map right a p
 found map right a p e = found_from map right a p 4 0 (omega arith) e
 
 -- by cases on a region's number
@@ -113,7 +111,7 @@ module _ (map : List ℕ) (n : ℕ) (good : good_map map n ≡ true) where
   good-at = four (λ k. good_region map n k ≡ true) parts.0 parts.1 parts.2 parts.3
 
   -- bases and lengths are multiples of 4, so an operand ends where its region ends, or before
-  pub found_inside : (s : Size) (right a p : ℕ) → find map right (aligned s a) ≡ At p → p + width s ≤ n
+  pub found_inside : (s : Size) (right a p : ℕ) → find map right (aligned s a) ≡ Some p → p + width s ≤ n
   found_inside s right a p e =
       let f = found map right (aligned s a) p e in
       let b = used map n f.region (good-at f.region f.one_of) (omega (arith, f.covers.below)) in
@@ -126,7 +124,7 @@ module _ (map : List ℕ) (n : ℕ) (good : good_map map n ≡ true) where
       go Word k c e b = omega arith
 
   -- the same, of an address x and an answer r as code has them
-  pub found-fits : (s : Size) (right a p : ℕ) {x : ℕ} {r : Spot} → x ≡ aligned s a → r ≡ find map right x → r ≡ At p → p + width s ≤ n
+  pub found-fits : (s : Size) (right a p : ℕ) {x : ℕ} {r : Option ℕ} → x ≡ aligned s a → r ≡ find map right x → r ≡ Some p → p + width s ≤ n
   found-fits s right a p e f g = found_inside s right a p (ap (λ (y : ℕ). find map right y) (sym e) ∙ sym f ∙ g)
 
   pub separate-at : (j : ℕ) → j < 4 → (k : ℕ) → k < 4 → j < k → separate map j k ≡ true
@@ -139,7 +137,7 @@ module _ (map : List ℕ) (n : ℕ) (good : good_map map n ≡ true) where
       (λ k h l. absurd (omega arith))
 
   -- used regions do not overlap, so an address has one place, whatever the right
-  pub found_one : (right other a p q : ℕ) → find map right a ≡ At p → find map other a ≡ At q → p ≡ q
+  pub found_one : (right other a p q : ℕ) → find map right a ≡ Some p → find map other a ≡ Some q → p ≡ q
   found_one right other a p q e d = go (found map right a p e) (found map other a q d)
     where
       go : Found map right a p → Found map other a q → p ≡ q

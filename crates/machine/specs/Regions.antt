@@ -1,7 +1,5 @@
 -- The map: four regions of the address space, each a part of memory with rights.
-use Rattle.std.specs.Prelude.{Bool, cond, ◌&&◌, ◌||◌, List, ℕ, zero, suc, ◌+◌, ◌-◌, ◌*◌, ◌/◌, ◌%◌, ◌^◌, eqb, ltb, leb, get_or}
-use Rattle.machine.specs.declared.Spot.{Spot}
-use Rattle.machine.specs.declared.Spot.TheVariants.{At, Nowhere}
+use Rattle.std.specs.Prelude.{Bool, cond, Option, Some, None, ◌&&◌, ◌||◌, List, ℕ, zero, suc, ◌+◌, ◌-◌, ◌*◌, ◌/◌, ◌%◌, ◌^◌, eqb, ltb, leb, get_or}
 
 -- region k has four words of the map
 abbrev pub base : List ℕ → ℕ → ℕ
@@ -31,11 +29,11 @@ unfoldable pub covers : List ℕ → ℕ → ℕ → ℕ → Bool
 covers map right a k = leb (base map k) a && (ltb (a - base map k) (size map k) && eqb (rights map k / right % 2) 1)
 
 -- where the address a lies in memory: n regions from k on are tried in order
-unfoldable pub find_from : List ℕ → ℕ → ℕ → ℕ → ℕ → Spot
-find_from map right a zero k = Nowhere
-find_from map right a (suc n) k = cond (covers map right a k) (At (offset map k + (a - base map k))) (find_from map right a n (suc k))
+unfoldable pub find_from : List ℕ → ℕ → ℕ → ℕ → ℕ → Option ℕ
+find_from map right a zero k = None
+find_from map right a (suc n) k = cond (covers map right a k) (Some (offset map k + (a - base map k))) (find_from map right a n (suc k))
 
-abbrev pub find : List ℕ → ℕ → ℕ → Spot
+abbrev pub find : List ℕ → ℕ → ℕ → Option ℕ
 find map right a = find_from map right a 4 0
 
 -- MAP, for a memory of n bytes: an unused region has length 0 and no other field, a used one lies within bounds

@@ -1,14 +1,13 @@
 -- A run: steps until the budget is used up or a step is refused; and reset.
-use Rattle.std.specs.Prelude.{List, ℕ, zero, suc, replicate}
+use Rattle.std.specs.Prelude.{Ok, Err, List, ℕ, zero, suc, replicate}
 use Rattle.machine.specs.declared.Open.{Open}
 use Rattle.machine.specs.declared.Answer.{Answer}
 use Rattle.machine.specs.declared.Answer.TheVariants.{Done, Size, Map, State, Asleep, NoFetch, Undefined, Leak, NoRead, NoWrite}
-use Rattle.machine.specs.declared.Went.{Went}
-use Rattle.machine.specs.declared.Went.TheVariants.{Next, Stop}
+use Rattle.machine.specs.declared.Refusal.{Refusal}
 use Rattle.machine.specs.declared.Ran.{Ran}
 use Rattle.machine.specs.Marked.{Cells, both}
 use Rattle.machine.specs.Psw.{CELLS}
-use Rattle.machine.specs.Step.{Outcome, step}
+use Rattle.machine.specs.Step.{Went, Outcome, step}
 
 -- The order's number of each answer
 abbrev pub number : Answer → ℕ
@@ -32,13 +31,13 @@ pub record Ended : Type 0 where
 abbrev pub ended : Answer → ℕ → ℕ → Open → Cells → Cells → Ended
 ended a p n o c m = record { ran = record { answer = a; place = p; steps = n; core = o }; cells = c; mem = m }
 
-abbrev pub on_went : Went → (Open → Ended) → (Answer → ℕ → Ended) → Ended
-on_went (Next o) go end = go o
-on_went (Stop a p) go end = end a p
+abbrev pub on_went : Went → (Open → Ended) → (Refusal → Ended) → Ended
+on_went (Ok o) go end = go o
+on_went (Err r) go end = end r
 
 -- from a step's end on to the next step, or to the end of the run after n steps in the state that the refused step left
 unfoldable pub carry : (Open → Cells → Cells → Ended) → ℕ → Open → Outcome → Ended
-carry go n o x = on_went x.went (λ p. go p x.cells x.mem) (λ a p. ended a p n o x.cells x.mem)
+carry go n o x = on_went x.went (λ p. go p x.cells x.mem) (λ r. ended r.answer r.place n o x.cells x.mem)
 
 -- a run with this budget left, after n steps
 unfoldable pub run : ℕ → ℕ → List ℕ → Open → Cells → Cells → Ended

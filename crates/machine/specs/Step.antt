@@ -1,5 +1,5 @@
 -- One step of the machine.
-use Rattle.std.specs.Prelude.{Bool, cond, ◌&&◌, not, List, ℕ, ◌+◌, ◌*◌, ◌/◌, ◌%◌, ◌^◌, eqb, ltb}
+use Rattle.std.specs.Prelude.{Bool, cond, Option, Some, None, Result, Ok, Err, ◌&&◌, not, List, ℕ, ◌+◌, ◌*◌, ◌/◌, ◌%◌, ◌^◌, eqb, ltb}
 use Rattle.word.specs.Extend.{sum24}
 use Rattle.insn.specs.declared.Size.{Size}
 use Rattle.insn.specs.declared.Size.TheVariants.{Byte, Half}
@@ -13,17 +13,18 @@ use Rattle.machine.specs.declared.Tv.{Tv}
 use Rattle.machine.specs.declared.Open.{Open}
 use Rattle.machine.specs.declared.Answer.{Answer}
 use Rattle.machine.specs.declared.Answer.TheVariants.{Asleep, NoFetch, Undefined, Leak, NoRead, NoWrite}
-use Rattle.machine.specs.declared.Went.{Went}
-use Rattle.machine.specs.declared.Went.TheVariants.{Next, Stop}
-use Rattle.machine.specs.declared.Spot.{Spot}
-use Rattle.machine.specs.declared.Spot.TheVariants.{At, Nowhere}
+use Rattle.machine.specs.declared.Refusal.{Refusal}
 use Rattle.machine.specs.Marked.{plain, lift1, lift_all, Cells, cell, put, edit}
 use Rattle.machine.specs.Psw.{reg, ELEMENT, put_reg, bits, bits_at, put_bits, EIPC, EIPSW, FEPC, FEPSW, ECR, sys, set_z, condition, psw, put_psw_flags, mode, spread, gathered}
 use Rattle.machine.specs.Regions.{find, READ, WRITE, FETCH}
 use Rattle.machine.specs.Memory.{address, bytes_at, little_endian, extended, put_bytes, changed, tests}
 use Rattle.machine.specs.Operations.{of_reg, of_imm5, of_imm16, of_shift, operate}
 
--- How a step ends, with the cells and the memory after it
+-- How a step ends: with the next state, or with a refusal
+abbrev pub Went : Type 0
+Went = Result Open Refusal
+
+-- the same with the cells and the memory after it
 pub record Outcome : Type 0 where
   pub went : Went
   pub cells : Cells
@@ -33,11 +34,11 @@ abbrev pub after : Went → Cells → Cells → Outcome
 after w c m = record { went = w; cells = c; mem = m }
 
 abbrev pub next : Open → Cells → Cells → Outcome
-next o c m = after (Next o) c m
+next o c m = after (Ok o) c m
 
 -- a refused step changes nothing
 abbrev pub refuse : Answer → ℕ → Cells → Cells → Outcome
-refuse a place c m = after (Stop a place) c m
+refuse a place c m = after (Err (record { answer = a; place = place })) c m
 
 -- What is never marked, with PC, the modes, the cause or the requests changed
 abbrev pub goto : ℕ → Open → Open
@@ -67,9 +68,9 @@ unfoldable pub reveal : Open → Cells → Cells → Tv → (ℕ → Outcome) �
 reveal o c m v k = cond v.mark (refuse Leak o.pc c m) (k v.val)
 
 -- the only way from an address to memory: with the right, or the refusal with the address as its place
-abbrev pub on_spot : Spot → Outcome → (ℕ → Outcome) → Outcome
-on_spot (At p) refusal k = k p
-on_spot Nowhere refusal k = refusal
+abbrev pub on_spot : Option ℕ → Outcome → (ℕ → Outcome) → Outcome
+on_spot (Some p) refusal k = k p
+on_spot None refusal k = refusal
 
 unfoldable pub place : List ℕ → ℕ → Answer → ℕ → Cells → Cells → (ℕ → Outcome) → Outcome
 place map right answer a c m k = on_spot (find map right a) (refuse answer a c m) k

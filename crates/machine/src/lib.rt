@@ -1,7 +1,12 @@
 // The machine: its state, one step of it, and a run.
 #![tactic(auto)]
 
-// A value with its mark.
+mod numbers;
+mod operations;
+mod unmarked;
+mod values;
+
+// A value with its mark. No Option: a marked value is computed with like any other (`lift1`, `lift2`).
 #[derive(Clone, Copy)]
 pub struct Tv {
     pub val: u32,
@@ -9,6 +14,7 @@ pub struct Tv {
 }
 
 // What is never marked: PC, the bits NP, EP and ID of PSW, ECR, and the requests (a maskable code or 0, and an NMI) with HALT's state.
+// They are numbers and no flags or options, as the definitions compute with them (`psw`, `modes`) and the block has them so (`core_in`).
 #[derive(Clone, Copy)]
 pub struct Open {
     pub pc: u32,
@@ -36,18 +42,12 @@ pub enum Answer {
     NoWrite,
 }
 
-// How a step ends: with the next state, or with a refusal, which changes nothing.
+// Why a step is refused, and the place. A refused step changes nothing. No enum of refusals alone: the order's numbers are one list, with
+// DONE in it (`number`).
 #[derive(Clone, Copy)]
-pub enum Went {
-    Next(Open),
-    Stop { answer: Answer, place: u32 },
-}
-
-// Where an operand lies in memory.
-#[derive(Clone, Copy)]
-pub enum Spot {
-    At(usize),
-    Nowhere,
+pub struct Refusal {
+    pub answer: Answer,
+    pub place: u32,
 }
 
 // The operations on words that instructions share.
@@ -88,7 +88,8 @@ pub enum Kind {
     Saturate,
 }
 
-// How a run ended: the answer and its place, the steps taken, and what is never marked as the last step left it.
+// How a run ended: the answer and its place, the steps taken, and what is never marked as the last step left it. No Result: each end has
+// all four, DONE's too, and the definition (`ended`) has them so.
 #[derive(Clone, Copy)]
 pub struct Ran {
     pub answer: Answer,

@@ -1,7 +1,5 @@
-// A block with a map of which one word is changed.
-ghost use Rattle.std.specs.Prelude.{◌≡◌, length};
-
-use crate::maps;
+// A block with a map.
+use crate::maps::Map;
 
 // A byte more than a block has.
 pub(crate) const ROOM: usize = 237;
@@ -9,28 +7,12 @@ pub(crate) const ROOM: usize = 237;
 // Where the map begins.
 const MAP: usize = 172;
 
-// The map is map's, but for word `at`, which is changed to value. All other bytes are `fill`.
-pub(crate) fn block(map: u32, at: u32, value: u32, fill: u8) -> [u8; ROOM]
-    ensures { 237 ≡ length result }
-{
+// All bytes but the map's are `fill`.
+pub(crate) fn block(map: &Map, fill: u8) -> [u8; ROOM] {
     let mut b = [fill; ROOM];
-    let mut i: usize = 0;
-    while i < 64 {
-        b[MAP + i] = byte(word(map, at, value, i as u32 / 4), i as u32 % 4);
-        i += 1;
+    let words = map.as_flattened();
+    for (place, word) in b[MAP..].chunks_exact_mut(4).zip(words) {
+        place.copy_from_slice(&word.to_le_bytes());
     }
     b
-}
-
-fn word(map: u32, at: u32, value: u32, w: u32) -> u32 {
-    let old = maps::word(map, w);
-    if w == at {
-        return maps::changed(old, value);
-    }
-    old
-}
-
-// Byte k of a word; the lowest is byte 0.
-fn byte(w: u32, k: u32) -> u8 {
-    ((w >> (8 * (k % 4))) % 256) as u8
 }

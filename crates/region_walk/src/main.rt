@@ -12,118 +12,63 @@
 // and 4 for the others: 10 + 8 + 8 + 8 = 34 for each length, and 0 for all other words.
 #![tactic(auto)]
 
-ghost use Rattle.std.specs.Prelude.{◌≡◌, ◌≤◌, length};
+ghost use Rattle.std.specs.Prelude.{◌<◌};
 
 mod block;
 mod maps;
 mod memory;
 mod seen;
 
-use maps::{MAPS, VALUES, WORDS};
+use maps::{CHANGES, FIELDS, MAPS, Map};
 use seen::Seen;
 use std::io;
 use v850::entry;
 
-// What a block is filled with.
-const FILLINGS: u32 = 2;
+// A block of zeros has a good state, and one of ones a bad one.
+const FILLINGS: [u8; 2] = [0, 0xFF];
 
 // Lengths of the block and of the memory that a view is given, and region numbers that it is asked for.
-const BLOCKS: u32 = 3;
+const BLOCKS: [usize; 3] = [235, 236, 237];
 
-const MEMORIES: u32 = 7;
+const MEMORIES: [usize; 7] = [0, 4, 64, 68, 65535, 65536, 65537];
 
-const REGIONS: u32 = 6;
+const REGIONS: [u32; 6] = [0, 1, 2, 3, 4, 0xFFFFFFFF];
 
 fn main(rt: HostRuntime) -> io::Result<()> {
-    let mut m = memory::memory();
-    let mut n: u32 = 0;
-    while n < MAPS * WORDS {
-        line(&rt, n / WORDS, n % WORDS, &mut m)?;
-        n += 1;
+    let mut memory = memory::memory();
+    for (n, map) in MAPS.iter().enumerate() {
+        for region in 0..4 {
+            for (field, name) in FIELDS.iter().enumerate() {
+                let seen = word(map, region, field, &mut memory);
+                println!(rt; "map {n} region {region} {name}: {seen}")?;
+            }
+        }
     }
     Ok(())
 }
 
-// One word of one map, changed to each value, in blocks of zeros, whose state is good, and of ones, whose state is bad.
-fn line(rt: &impl Print, map: u32, word: u32, m: &mut [u8]) -> io::Result<()>
-    requires { length m.old ≡ 65537 }
+// One word of a map, changed to each value, in blocks with either filling.
+fn word(map: &Map, region: usize, field: usize, memory: &mut [u8; memory::ROOM]) -> Seen
+    requires { (region < 4) × (field < 4) }
 {
-    let mut s = seen::none();
-    let mut v: u32 = 0;
-    while v < VALUES * FILLINGS {
-        let b = block::block(map, word, v / FILLINGS, fill(v % FILLINGS));
-        s = views(s, &b, m);
-        v += 1;
+    let mut seen = Seen::default();
+    for change in CHANGES {
+        let mut changed = *map;
+        changed[region][field] = change.of(map[region][field]);
+        for fill in FILLINGS {
+            views(&mut seen, &block::block(&changed, fill), memory);
+        }
     }
-    name(rt, map, word)?;
-    seen::print(rt, s)
+    seen
 }
 
-fn fill(n: u32) -> u8 {
-    if n == 0 { 0 } else { 0xFF }
-}
-
-// Every view of a block.
-fn views(from: Seen, b: &[u8], m: &mut [u8]) -> Seen
-    requires { (length b.now ≡ 237) × (length m.old ≡ 65537) }
-{
-    let mut s = from;
-    let mut n: u32 = 0;
-    while n < BLOCKS * MEMORIES * REGIONS {
-        s = view(s, b, m, n);
-        n += 1;
-    }
-    s
-}
-
-// View n: the region changes with every view, and the length of the block last.
-fn view(s: Seen, b: &[u8], m: &mut [u8], n: u32) -> Seen
-    requires { (length b.now ≡ 237) × (length m.old ≡ 65537) }
-{
-    let long = block_length(n / REGIONS / MEMORIES);
-    let size = memory_length(n / REGIONS % MEMORIES);
-    let part = entry::region(&b[0..long], &mut m[0..size], region(n % REGIONS));
-    seen::noted(s, part)
-}
-
-fn block_length(n: u32) -> usize
-    ensures { result ≤ 237 }
-{
-    match n {
-        0 => 235,
-        1 => 236,
-        _ => 237,
-    }
-}
-
-fn memory_length(n: u32) -> usize
-    ensures { result ≤ 65537 }
-{
-    match n {
-        0 => 0,
-        1 => 4,
-        2 => 64,
-        3 => 68,
-        4 => 65535,
-        5 => 65536,
-        _ => 65537,
-    }
-}
-
-fn region(n: u32) -> u32 {
-    if n == 5 { 0xFFFFFFFF } else { n }
-}
-
-fn name(rt: &impl Print, map: u32, word: u32) -> io::Result<()> {
-    print!(rt; "map {map} region {}", word / 4)?;
-    field(rt, word % 4)
-}
-
-fn field(rt: &impl Print, n: u32) -> io::Result<()> {
-    match n {
-        0 => print!(rt; " base:"),
-        1 => print!(rt; " length:"),
-        2 => print!(rt; " offset:"),
-        _ => print!(rt; " rights:"),
+// Every view of a block: the region changes with every view, and the length of the block last.
+fn views(seen: &mut Seen, block: &[u8; block::ROOM], memory: &mut [u8; memory::ROOM]) {
+    for long in BLOCKS {
+        for size in MEMORIES {
+            for region in REGIONS {
+                seen.note(entry::region(&block[..long], &mut memory[..size], region));
+            }
+        }
     }
 }

@@ -1,114 +1,81 @@
 // Good maps, and what one word of them is changed to.
 
-pub(crate) const MAPS: u32 = 6;
+// A map: of four regions base, length, offset and rights.
+pub(crate) type Map = [[u32; 4]; 4];
 
-// Words of a map: four for each of four regions.
-pub(crate) const WORDS: u32 = 16;
+pub(crate) const MAPS: [Map; 6] = [TOUCHING, TO_THE_ENDS, WHOLE, LEAST, TURNED, NONE];
 
-pub(crate) const VALUES: u32 = 16;
-
-// Word w of a map: base, length, offset and rights of region w / 4.
-pub(crate) fn word(map: u32, w: u32) -> u32 {
-    match map {
-        0 => touching(w),
-        1 => to_the_ends(w),
-        2 => whole(w),
-        3 => least(w),
-        4 => turned(w),
-        _ => 0,
-    }
-}
+pub(crate) const FIELDS: [&str; 4] = ["base", "length", "offset", "rights"];
 
 // Four regions that touch in addresses and in offsets, in 64 bytes.
-fn touching(w: u32) -> u32 {
-    match w {
-        1 => 16,
-        3 => 7,
-        4 => 16,
-        5 => 16,
-        6 => 16,
-        7 => 5,
-        8 => 32,
-        9 => 16,
-        10 => 32,
-        11 => 3,
-        12 => 48,
-        13 => 16,
-        14 => 48,
-        _ => 0,
-    }
-}
+const TOUCHING: Map = [
+    [0, 16, 0, 7],
+    [16, 16, 16, 5],
+    [32, 16, 32, 3],
+    [48, 16, 48, 0],
+];
 
 // Up to the last address and the last byte; at address 0, with odd offsets; one unused.
-fn to_the_ends(w: u32) -> u32 {
-    match w {
-        0 => 0xFFFFF0,
-        1 => 16,
-        2 => 65520,
-        3 => 4,
-        5 => 4,
-        6 => 1,
-        7 => 1,
-        8 => 4,
-        9 => 65504,
-        10 => 5,
-        11 => 2,
-        _ => 0,
-    }
-}
+const TO_THE_ENDS: Map = [
+    [0xFFFFF0, 16, 65520, 4],
+    [0, 4, 1, 1],
+    [4, 65504, 5, 2],
+    [0, 0, 0, 0],
+];
 
 // All of the largest memory in one region, below 2^24.
-fn whole(w: u32) -> u32 {
-    match w {
-        8 => 0xFF0000,
-        9 => 65536,
-        11 => 7,
-        _ => 0,
-    }
-}
+const WHOLE: Map = [
+    [0, 0, 0, 0],
+    [0, 0, 0, 0],
+    [0xFF0000, 65536, 0, 7],
+    [0, 0, 0, 0],
+];
 
 // One region of four bytes.
-fn least(w: u32) -> u32 {
-    match w {
-        13 => 4,
-        15 => 6,
-        _ => 0,
-    }
-}
+const LEAST: Map = [[0, 0, 0, 0], [0, 0, 0, 0], [0, 0, 0, 0], [0, 4, 0, 6]];
 
 // Two regions with room around them, their offsets in the other order than their addresses.
-fn turned(w: u32) -> u32 {
-    match w {
-        0 => 0x800000,
-        1 => 8,
-        2 => 12,
-        3 => 1,
-        12 => 0x400000,
-        13 => 24,
-        14 => 40,
-        15 => 2,
-        _ => 0,
-    }
+const TURNED: Map = [
+    [0x800000, 8, 12, 1],
+    [0, 0, 0, 0],
+    [0, 0, 0, 0],
+    [0x400000, 24, 40, 2],
+];
+
+const NONE: Map = [[0; 4]; 4];
+
+// What a word is changed to.
+#[derive(Clone, Copy)]
+pub(crate) enum Change {
+    By(i32),
+    To(u32),
 }
 
-// What a word is changed to: itself, a little more or less, and numbers at the ends of what a field may be.
-pub(crate) fn changed(old: u32, value: u32) -> u32 {
-    match value {
-        0 => old,
-        1 => std::num::wrapping_add_u32(old, 1),
-        2 => std::num::wrapping_add_u32(old, 2),
-        3 => std::num::wrapping_add_u32(old, 4),
-        4 => std::num::wrapping_add_u32(old, 8),
-        5 => std::num::wrapping_add_u32(old, 16),
-        6 => std::num::wrapping_sub_u32(old, 1),
-        7 => std::num::wrapping_sub_u32(old, 2),
-        8 => std::num::wrapping_sub_u32(old, 4),
-        9 => std::num::wrapping_sub_u32(old, 16),
-        10 => 0,
-        11 => 8,
-        12 => 0xFFFFF0,
-        13 => 0x1000000,
-        14 => 0x80000000,
-        _ => 0xFFFFFFF0,
+// Itself, a little more or less, and numbers at the ends of what a field may be.
+pub(crate) const CHANGES: [Change; 16] = [
+    Change::By(0),
+    Change::By(1),
+    Change::By(2),
+    Change::By(4),
+    Change::By(8),
+    Change::By(16),
+    Change::By(-1),
+    Change::By(-2),
+    Change::By(-4),
+    Change::By(-16),
+    Change::To(0),
+    Change::To(8),
+    Change::To(0xFFFFF0),
+    Change::To(0x1000000),
+    Change::To(0x80000000),
+    Change::To(0xFFFFFFF0),
+];
+
+impl Change {
+    pub(crate) fn of(self, word: u32) -> u32 {
+        match self {
+            Change::By(n) => word.wrapping_add_signed(n),
+            Change::To(n) => n,
+        }
     }
 }

@@ -1,24 +1,13 @@
 // A memory in which any four bytes tell where they stand: halfword m of it is m.
-ghost use Rattle.std.specs.Prelude.{◌≡◌, length};
 
 // A byte more than a memory may have.
 pub(crate) const ROOM: usize = 65537;
 
-pub(crate) fn memory() -> [u8; ROOM]
-    ensures { 65537 ≡ length result }
-{
-    let mut m = [0u8; ROOM];
-    let mut i: usize = 0;
-    while i < ROOM {
-        m[i] = byte(i);
-        i += 1;
-    }
-    m
+pub(crate) fn memory() -> [u8; ROOM] {
+    std::array::from_fn(byte)
 }
 
 fn byte(i: usize) -> u8 {
-    if i % 2 == 0 {
-        return (i / 2 % 256) as u8;
-    }
-    (i / 512 % 256) as u8
+    let half = (i / 2 % 0x10000) as u16;
+    half.to_le_bytes()[i % 2]
 }

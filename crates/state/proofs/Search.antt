@@ -2,17 +2,16 @@
 use mathlib.Core.Path.{◌≡◌, refl, sym, ap, ◌∙◌}
 use mathlib.Core.Bool.{Bool, true, false, cond}
 use mathlib.Core.List.{List}
-use Prim.Native.Nat.{ℕ, zero, suc, ◌+◌, ◌-◌, ◌*◌, ◌/◌, ◌%◌, ◌^◌, ◌≤◌, ◌<◌}
+use Prim.Native.Nat.{ℕ, zero, suc, ◌+◌, ◌-◌, ◌/◌, ◌%◌, ◌^◌, ◌≤◌, ◌<◌}
 use native.Mathlib.Omega.{arith}
 use lib.Dec.{eqb, ltb}
-use lib.ListN.{get_or}
 use borrow.Author.Tests.{ltb-true, ltb-false}
 use Rattle.word.specs.Sums.{difference}
-use Rattle.machine.specs.declared.Spot.TheVariants.{At, Nowhere}
+use Rattle.std.specs.Prelude.{Some, None}
 use Rattle.machine.specs.Regions.{base, size, offset, rights, covers, find_from, find}
 use Rattle.machine.specs.RegionLaws.{covered}
-use Rattle.state.specs.declared.Place.{Place}
-use Rattle.state.specs.Windows.{seen, Sizes, Laid, spot_of, Onward}
+use Rattle.state.specs.declared.map.Place.{Place}
+use Rattle.state.specs.Windows.{seen, Laid, Onward}
 use Rattle.state.specs.WindowLaws.{inside, outside}
 
 seen-small : (map : List ℕ) (n k : ℕ) → seen map n k ≤ size map k
@@ -22,15 +21,11 @@ seen-small map n k = go (eqb (rights map k / 2 ^ n % 2) 1)
     go true = omega arith
     go false = omega arith
 
--- what a right sees of region k lies within the largest memory
-pub seen-places : {map sizes : List ℕ} {n : ℕ} → (n < 3) × Sizes map sizes × Laid map → (k : ℕ) → k < 4 → offset map k + get_or sizes (4 * n + k) 0 ≤ 2 ^ 16
-seen-places {map} {sizes} {n} pre k h = omega (arith, pre.1.each n k pre.0 h, pre.2.places k h, seen-small map n k)
-
-only : (map : List ℕ) → Laid map → (right a k : ℕ) → k < 4 → covers map right a k ≡ true → find map right a ≡ At (offset map k + (a - base map k))
+only : (map : List ℕ) → Laid map → (right a k : ℕ) → k < 4 → covers map right a k ≡ true → find map right a ≡ Some (offset map k + (a - base map k))
 unfolding find_from
 only map laid right a k l h = from 4 0 (omega arith) (omega arith)
   where
-    from : (m j : ℕ) → j ≤ k → k < j + m → find_from map right a m j ≡ At (offset map k + (a - base map k))
+    from : (m j : ℕ) → j ≤ k → k < j + m → find_from map right a m j ≡ Some (offset map k + (a - base map k))
     from zero j i e = absurd (omega arith)
     from (suc m) j i e = go (covers map right a j) refl (from m (suc j))
       where
@@ -38,47 +33,48 @@ only map laid right a k l h = from 4 0 (omega arith) (omega arith)
         differ t s = let z : ◌≡◌ {A = ℕ} 0 1 = cc in omega arith
 
         go : (t : Bool) → covers map right a j ≡ t
-            → (suc j ≤ k → k < suc j + m → find_from map right a m (suc j) ≡ At (offset map k + (a - base map k)))
-            → cond t (At (offset map j + (a - base map j))) (find_from map right a m (suc j)) ≡ At (offset map k + (a - base map k))
-        go true t rest = ap (λ (i : ℕ). At (offset map i + (a - base map i))) (laid.apart right a j k (omega arith) l t h)
+            → (suc j ≤ k → k < suc j + m → find_from map right a m (suc j) ≡ Some (offset map k + (a - base map k)))
+            → cond t (Some (offset map j + (a - base map j))) (find_from map right a m (suc j)) ≡ Some (offset map k + (a - base map k))
+        go true t rest = ap (λ (i : ℕ). Some (offset map i + (a - base map i))) (laid.apart right a j k (omega arith) l t h)
         go false t rest = let n = differ t in rest (omega arith) (omega arith)
 
--- the code's comparison for region k
-abbrev near : List ℕ → List ℕ → ℕ → ℕ → ℕ → Bool
-near map sizes n a k = ltb (difference a (base map k)) (get_or sizes (4 * n + k) 0)
+-- the code's comparison for region k says whether it covers the address
+module _ {map : List ℕ} (laid : Laid map) (n k a : ℕ) (one_of : k < 4) (word : a < 2 ^ 32) where
+  pub near_covers : ltb (difference a (base map k)) (seen map n k) ≡ covers map (2 ^ n) a k
+  near_covers = go (ltb (difference a (base map k)) (seen map n k)) refl
+    where
+      go : (t : Bool) → ltb (difference a (base map k)) (seen map n k) ≡ t → t ≡ covers map (2 ^ n) a k
+      go true e = sym (inside map n a k (laid.below k one_of) word (ltb-true _ _ e)).0
+      go false e = sym (outside map n a k (laid.below k one_of) word (ltb-false _ _ e))
 
-module _ {map sizes : List ℕ} {n : ℕ} (pre : (n < 3) × Sizes map sizes × Laid map) (a : ℕ) (word : a < 2 ^ 32) where
-  -- it holds: region k covers what is left of it, too
-  pub placed : (p : Place) (k : ℕ) → k < 4
-      → (p.found ≡ true) × (p.at ≡ offset map k + difference a (base map k)) × (p.left + difference a (base map k) ≡ get_or sizes (4 * n + k) 0)
-      → {t : Bool} → t ≡ near map sizes n a k → t ≡ true
-      → (spot_of p ≡ find map (2 ^ n) a) × Onward map (2 ^ n) a p
-  placed p k h e s t =
-      let same = pre.1.each n k pre.0 h in
-      let less = ltb-true (difference a (base map k)) (get_or sizes (4 * n + k) 0) (sym s ∙ t) in
-      let within = pre.2.below k h in
-      let here = inside map n a k within word (omega arith) in
+  -- where it does: the distance, and what lies before the region's end
+  pub covered_near : covers map (2 ^ n) a k ≡ true → difference a (base map k) < seen map n k
+  covered_near h = ltb-true _ _ (near_covers ∙ h)
+
+  pub covered_small : covers map (2 ^ n) a k ≡ true → offset map k + seen map n k ≤ 2 ^ 16
+  covered_small h = omega (arith, laid.places k one_of, seen-small map n k)
+
+  -- what is found there, and all that is left of the region
+  pub placed : covers map (2 ^ n) a k ≡ true → (p : Place)
+      → p.at ≡ offset map k + difference a (base map k) → p.left + difference a (base map k) ≡ seen map n k
+      → (Some p.at ≡ find map (2 ^ n) a) × Onward map (2 ^ n) a p
+  placed h p e f =
+      let less = covered_near h in
+      let within = laid.below k one_of in
+      let here = inside map n a k within word less in
       let above = (covered map (2 ^ n) a k here.0).above in
       let small = seen-small map n k in
-      let held = pre.2.places k h in (
-        rw e.0 (ap At (omega arith) ∙ sym (only map pre.2 (2 ^ n) a k h here.0)),
+      let held = laid.places k one_of in (
+        ap Some (omega arith) ∙ sym (only map laid (2 ^ n) a k one_of here.0),
         record {
-          each = λ i j. only map pre.2 (2 ^ n) (a + i) k h (inside map n (a + i) k within (omega arith) (omega arith)).0 ∙ ap At (omega arith);
+          each = λ i j. only map laid (2 ^ n) (a + i) k one_of (inside map n (a + i) k within (omega arith) (omega arith)).0 ∙ ap Some (omega arith);
           below = λ i. omega arith;
           places = λ i. omega arith;
         },
       )
 
-  misses : (k : ℕ) → k < 4 → {t : Bool} → t ≡ near map sizes n a k → t ≡ false → covers map (2 ^ n) a k ≡ false
-  misses k h s t =
-      let same = pre.1.each n k pre.0 h in
-      let far = ltb-false (difference a (base map k)) (get_or sizes (4 * n + k) 0) (sym s ∙ t) in
-      outside map n a k (pre.2.below k h) word (omega arith)
-
-  -- it holds for no region
-  pub unplaced : {t0 t1 t2 t3 : Bool} → t0 ≡ near map sizes n a 0 → t0 ≡ false → t1 ≡ near map sizes n a 1 → t1 ≡ false
-      → t2 ≡ near map sizes n a 2 → t2 ≡ false → t3 ≡ near map sizes n a 3 → t3 ≡ false
-      → Nowhere ≡ find map (2 ^ n) a
-  unfolding find_from
-  unplaced s0 n0 s1 n1 s2 n2 s3 n3 =
-      rw (misses 0 (omega arith) s0 n0, misses 1 (omega arith) s1 n1, misses 2 (omega arith) s2 n2, misses 3 (omega arith) s3 n3)
+-- where no region covers the address, none is found
+pub unplaced : (map : List ℕ) (right a : ℕ) → covers map right a 0 ≡ false → covers map right a 1 ≡ false
+    → covers map right a 2 ≡ false → covers map right a 3 ≡ false → None ≡ find map right a
+unfolding find_from
+unplaced map right a c0 c1 c2 c3 = rw (c0, c1, c2, c3)

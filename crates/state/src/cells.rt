@@ -1,53 +1,94 @@
 // Cells: numbers beside their marks. Cells 0 to 31 are the registers, 32 to 37 the system registers.
 ghost use Rattle.std.specs.Prelude.{◌≡◌, ◌<◌};
 ghost use Rattle.machine.specs.Marked.{both, mark_of, cell, put};
-ghost use Rattle.machine.specs.Psw.{reg, put_reg, CELLS};
+ghost use Rattle.machine.specs.Psw.{reg, put_reg, REGS, CELLS};
 
-use crate::CELLS;
 use machine::Tv;
+use std::marker::Model;
+
+// How many cells there are, and how many of them are registers.
+pub const CELLS: usize = 38;
+
+const REGS: u32 = 32;
+
+// In clauses, the definition's cells, which are two lists beside each other, of which `edit` takes one alone; so are these. A mark is a byte
+// of its own: a register's is 0 or 1, and of a saved PSW and the flags it is bits.
+#[derive(Drop)]
+pub struct Cells {
+    pub(crate) nums: [u32; CELLS],
+    pub(crate) marks: [u8; CELLS],
+}
+
+impl Model for Cells {
+    ghost use Rattle.machine.specs.Marked.{Cells, both};
+
+    ghost Value = { Cells };
+
+    ghost view = { λ c. both c.nums c.marks };
+}
 
 // A mark as it is written.
 pub fn mark_of(mark: bool) -> u8
     ensures { result ≡ mark_of mark }
 {
-    if mark { 1 } else { 0 }
+    u8::from(mark)
 }
 
-pub fn get(cells: &[u32; CELLS], tags: &[u8; CELLS], i: u32) -> Tv
-    requires { i < CELLS }
-    ensures { result ≡ cell (both cells.now tags.now) i }
-{
-    let k = i as usize;
-    Tv {
-        val: cells[k],
-        mark: tags[k] != 0,
+impl Cells {
+    pub fn new(nums: [u32; CELLS], marks: [u8; CELLS]) -> Cells
+        ensures { result ≡ both nums marks }
+    {
+        Cells { nums, marks }
     }
-}
 
-pub fn put(cells: &mut [u32; CELLS], tags: &mut [u8; CELLS], i: u32, v: Tv)
-    requires { i < CELLS }
-    ensures { both cells.new tags.new ≡ put i v (both cells.old tags.old) }
-{
-    let k = i as usize;
-    cells[k] = v.val;
-    tags[k] = mark_of(v.mark);
-}
-
-// Register n.
-pub fn reg(cells: &[u32; CELLS], tags: &[u8; CELLS], n: u32) -> Tv
-    requires { n < 32 }
-    ensures { result ≡ reg n (both cells.now tags.now) }
-{
-    get(cells, tags, n)
-}
-
-// Writing r0 drops the value.
-pub fn put_reg(cells: &mut [u32; CELLS], tags: &mut [u8; CELLS], n: u32, v: Tv)
-    requires { n < 32 }
-    ensures { both cells.new tags.new ≡ put_reg n v (both cells.old tags.old) }
-{
-    if n == 0 {
-        return;
+    pub fn nums(&self) -> &[u32; CELLS]
+        ensures { result.now ≡ self.now.nums }
+    {
+        &self.nums
     }
-    put(cells, tags, n, v);
+
+    pub fn marks(&self) -> &[u8; CELLS]
+        ensures { result.now ≡ self.now.marks }
+    {
+        &self.marks
+    }
+
+    // A cell by its number, here and in `psw`: callers name it by a constant, so a type for numbers below CELLS would be made at each call.
+    pub fn get(&self, i: u32) -> Tv
+        requires { i < CELLS }
+        ensures { result ≡ cell self.now i }
+    {
+        let k = i as usize;
+        Tv {
+            val: self.nums[k],
+            mark: self.marks[k] != 0,
+        }
+    }
+
+    pub fn put(&mut self, i: u32, v: Tv)
+        requires { i < CELLS }
+        ensures { self.new ≡ put i v self.old }
+    {
+        let k = i as usize;
+        self.nums[k] = v.val;
+        self.marks[k] = mark_of(v.mark);
+    }
+
+    // Register n, by its low five bits.
+    pub fn reg(&self, n: u32) -> Tv
+        ensures { result ≡ reg n self.now }
+    {
+        self.get(n % REGS)
+    }
+
+    // Writing r0 drops the value.
+    #[tactic(auto, unfolding(machine::specs::Psw::put_reg))]
+    pub fn put_reg(&mut self, n: u32, v: Tv)
+        ensures { self.new ≡ put_reg n v self.old }
+    {
+        let i = n % REGS;
+        if i != 0 {
+            self.put(i, v);
+        }
+    }
 }

@@ -2,16 +2,11 @@
 ghost use Rattle.std.specs.Prelude.{◌≡◌, ◌^◌, ◌<◌};
 ghost use Rattle.machine.specs.Regions.{unused, bounded, good_region, apart, separate, good_map};
 
-use crate::{MAP, regions};
-
-fn wide(x: u32) -> u64
-    ensures { (result ≡ x) × (result < 2 ^ 32) }
-{
-    x as u64
-}
+use crate::regions;
+use crate::regions::WORDS;
 
 // An unused region has no other field.
-fn unused(map: &[u32; MAP], k: usize) -> bool
+fn unused(map: &[u32; WORDS], k: usize) -> bool
     requires { k < 4 }
     ensures { result ≡ unused map.now k }
 {
@@ -19,19 +14,20 @@ fn unused(map: &[u32; MAP], k: usize) -> bool
 }
 
 // A used region lies within the addresses and within memory.
-fn bounded(map: &[u32; MAP], n: usize, k: usize) -> bool
+fn bounded(map: &[u32; WORDS], n: usize, k: usize) -> bool
     requires { k < 4 }
     ensures { result ≡ bounded map.now n k }
 {
     let base = regions::base(map, k);
     let size = regions::size(map, k);
-    let in_addresses = wide(base) + wide(size) <= 0x1000000;
-    let in_memory = wide(regions::offset(map, k)) + wide(size) <= n as u64;
+    let in_addresses = u64::from(base) + u64::from(size) <= 0x1000000;
+    let in_memory = u64::from(regions::offset(map, k)) + u64::from(size) <= n as u64;
     (base % 4 == 0)
         & ((size % 4 == 0) & (in_addresses & (in_memory & (regions::rights(map, k) <= 7))))
 }
 
-fn good_region(map: &[u32; MAP], n: usize, k: usize) -> bool
+#[tactic(auto, unfolding(machine::specs::Regions::good_region))]
+fn good_region(map: &[u32; WORDS], n: usize, k: usize) -> bool
     requires { k < 4 }
     ensures { result ≡ good_region map.now n k }
 {
@@ -45,11 +41,12 @@ fn good_region(map: &[u32; MAP], n: usize, k: usize) -> bool
 fn apart(a: u32, l: u32, b: u32, m: u32) -> bool
     ensures { result ≡ apart a l b m }
 {
-    (wide(a) + wide(l) <= wide(b)) | (wide(b) + wide(m) <= wide(a))
+    (u64::from(a) + u64::from(l) <= u64::from(b)) | (u64::from(b) + u64::from(m) <= u64::from(a))
 }
 
 // Used regions overlap neither in addresses nor in offsets.
-fn separate(map: &[u32; MAP], j: usize, k: usize) -> bool
+#[tactic(auto, unfolding(machine::specs::Regions::separate))]
+fn separate(map: &[u32; WORDS], j: usize, k: usize) -> bool
     requires { (j < 4) × (k < 4) }
     ensures { result ≡ separate map.now j k }
 {
@@ -60,7 +57,9 @@ fn separate(map: &[u32; MAP], j: usize, k: usize) -> bool
     (l == 0) | ((m == 0) | (in_addresses & in_memory))
 }
 
-pub fn good_map(map: &[u32; MAP], n: usize) -> bool
+// The ten tests stand one by one, as in the definition.
+#[tactic(auto, unfolding(machine::specs::Regions::good_map))]
+pub fn good_map(map: &[u32; WORDS], n: usize) -> bool
     ensures { result ≡ good_map map.now n }
 {
     good_region(map, n, 0)

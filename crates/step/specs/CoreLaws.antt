@@ -1,21 +1,18 @@
 -- What is never marked, in two numbers: packed and taken out it is the same, and what a step makes of it fits again.
-use Rattle.std.specs.Prelude.{◌≡◌, ℕ, ◌+◌, ◌*◌, ◌/◌, ◌%◌, ◌^◌, ◌<◌, true, ◌&&◌, [], ◌==◌}
-use Rattle.std.proofs.Common.{sym, ap, arith}
+use Rattle.std.specs.Prelude.{◌≡◌, Result, Ok, ℕ, ◌+◌, ◌*◌, ◌/◌, ◌%◌, ◌^◌, ◌<◌, ◌&&◌, ◌==◌}
+use Rattle.std.proofs.Common.{sym, ap, ◌∙◌, arith}
 use Rattle.word.specs.Extend.{sum24}
 use Rattle.machine.specs.declared.Open.{Open}
-use Rattle.machine.specs.declared.Went.{Went}
-use Rattle.machine.specs.declared.Went.TheVariants.{Next}
-use Rattle.machine.specs.Marked.{Cells, both}
+use Rattle.machine.specs.declared.Refusal.{Refusal}
+use Rattle.machine.specs.Marked.{Cells}
 use Rattle.machine.specs.Psw.{EIPC, EIPSW, FEPC, FEPSW}
 use Rattle.machine.specs.Step.{Outcome, after, next, goto, plus, modes, cause, waits, exception, trap, illegal, return, reti, take_nmi, take_code}
 use Rattle.machine.specs.WellFormed.{WellFormed}
 use Rattle.machine.specs.InvariantLaws.{code_target, Ends, next-ends, reveal-ends, cond_ends}
-use Rattle.step.specs.declared.Out.{Out}
-use Rattle.step.specs.declared.Wide.{Wide}
-use Rattle.step.specs.declared.System.{System}
-use Rattle.step.specs.declared.System.TheVariants.{Trap, Halt, Reti, Di, Ei}
-use Rattle.step.specs.declared.Packed.{Packed}
-use Rattle.step.specs.Tasks.{open_of, Fits, goes_on, went_of, went_wide, do_system}
+use Rattle.step.specs.declared.tasks.System.{System}
+use Rattle.step.specs.declared.tasks.System.TheVariants.{Trap, Halt, Reti, Di, Ei}
+use Rattle.step.specs.declared.unmarked.Packed.{Packed}
+use Rattle.step.specs.Tasks.{open_of, Fits, do_system}
 
 abbrev pub packed : ℕ → ℕ → Packed
 packed p r = record { pc = p; rest = r }
@@ -117,16 +114,13 @@ module _ {o : Open} (f : Fits o) {c m : Cells} where
   code_fits =
       on_fits _ (cause-fits (modes-fits (waits-fits f 0 _ 0 (omega arith) f.nmi (omega arith)) _ 0 1 f.np (omega arith) (omega arith)) _)
 
--- the code's result of it fits, and once packed it is the step's
-pub wide_fits : (w : Wide) {c m d q : Cells} {x : Outcome} → after (went_wide w) d q ≡ x → Fitting c m x → goes_on w.answer ≡ true → Fits w.open
-wide_fits w {d = d} {q = q} {x = x} e f t =
-    let g : next w.open d q ≡ x = rw t at e in f.went w.open (ap (λ (y : Outcome). y.went) (sym g))
+-- code's result of it fits
+pub wide_fits : (r : Result Open Refusal) {c m d q : Cells} {x : Outcome} → after r d q ≡ x → Fitting c m x → (o : Open) → r ≡ Ok o → Fits o
+wide_fits r e f o h = f.went o (ap (λ (y : Outcome). y.went) (sym e) ∙ h)
 
 -- so do the modes that LDSR writes
-pub psw-fits : {o : Open} → Fits o → (w : Wide) (x : ℕ) → went_wide w ≡ Next (plus 4 (modes (x / 2 ^ 7 % 2) (x / 2 ^ 6 % 2) (x / 2 ^ 5 % 2) o)) → goes_on w.answer ≡ true → Fits w.open
-psw-fits {o} f w x e =
-    wide_fits w {c = both [] []} {m = both [] []} (ap (λ (v : Went). after v (both [] []) (both [] [])) e)
-    (on_fits f (sum24 o.pc 4) (modes-fits f _ _ _ (omega arith) (omega arith) (omega arith)))
+pub psw-fits : {o : Open} → Fits o → (x : ℕ) → Fits (plus 4 (modes (x / 2 ^ 7 % 2) (x / 2 ^ 6 % 2) (x / 2 ^ 5 % 2) o))
+psw-fits {o} f x = goto-fits (modes-fits f _ _ _ (omega arith) (omega arith) (omega arith)) (sum24 o.pc 4)
 
 -- three bits side by side
 two-parts : (q : ℕ) → q % 4 ≡ q % 2 + 2 * (q / 2 % 2)
@@ -151,9 +145,6 @@ pub modes_kept : (c : Packed) (x : ℕ) → (open_of c).id + 2 * (open_of c).ep 
     → modes (x / 2 ^ 7 % 2) (x / 2 ^ 6 % 2) (x / 2 ^ 5 % 2) (open_of c) ≡ open_of c
 modes_kept c x q =
     let b = three_bits (open_of c).id (open_of c).ep (open_of c).np x (omega arith) (omega arith) (omega arith) q in rw (b.0, b.1, b.2)
-
-pub settled : (o : Packed) (w : Wide) (r : Out) {c m : Cells} {x : Outcome} → went_of o r ≡ went_wide w → after (went_wide w) c m ≡ x → after (went_of o r) c m ≡ x
-settled o w r h e = rw h e
 
 -- a well-formed state fits
 pub formed-fits : {o : Open} {c : Cells} → WellFormed o c → Fits o

@@ -1,7 +1,7 @@
 -- A run from its steps: the state after each is ready and well-formed, and what is left of the run goes on from there.
-use Rattle.std.specs.Prelude.{◌≡◌, ℕ, suc, ◌+◌, ◌-◌, ◌<◌, ◌≤◌, true, false, List, length}
+use Rattle.std.specs.Prelude.{◌≡◌, Ok, Err, ℕ, suc, ◌+◌, ◌-◌, ◌<◌, ◌≤◌, true, false, List, length}
 use Rattle.std.specs.Prelude.{refl}
-use Rattle.std.proofs.Common.{sym, ap, ◌∙◌, subst, arith}
+use Rattle.std.proofs.Common.{true≢false, sym, ap, ◌∙◌, subst, arith}
 use Rattle.std.proofs.Math.Numerals.{add-one}
 use Rattle.machine.specs.declared.Open.{Open}
 use Rattle.machine.specs.declared.Answer.{Answer}
@@ -11,9 +11,11 @@ use Rattle.machine.specs.Step.{Outcome, after, next, refuse, nmi_accepted, code_
 use Rattle.machine.specs.Run.{Ended, ended, carry, run}
 use Rattle.machine.specs.WellFormed.{WellFormed, Bytes}
 use Rattle.machine.proofs.Invariants.{step_well_formed}
-use Rattle.step.specs.declared.Packed.{Packed}
-use Rattle.step.specs.declared.Out.{Out}
-use Rattle.step.specs.Tasks.{open_of, acts, goes_on, next_of, went_of, Prepared}
+use Rattle.machine.specs.declared.Refusal.{Refusal}
+use Rattle.step.specs.declared.unmarked.Packed.{Packed}
+use Rattle.step.specs.declared.unmarked.Next.{Next}
+use Rattle.step.specs.declared.unmarked.Next.TheVariants.{Calm, Changed}
+use Rattle.step.specs.Tasks.{open_of, acts, next_of, is_calm, Ready}
 
 left : (b n : ℕ) → n < b → b - n ≡ suc (b - (n + 1))
 left b n h = omega arith
@@ -41,47 +43,47 @@ formed-on map o c m {p} e f b =
     )
 
 -- On the way of a run of b steps that ends as x and began with the memory m₀ and the marks k₀: n steps are done
-pub record Going (b : ℕ) (map sizes m₀ k₀ : List ℕ) (x : Ended) (n : ℕ) (o : Open) (c : Cells) (m k : List ℕ) : Type 0 where
+pub record Going (b : ℕ) (map m₀ k₀ : List ℕ) (x : Ended) (n : ℕ) (o : Open) (c : Cells) (m k : List ℕ) : Type 0 where
   pub within : n ≤ b
-  pub prepared : Prepared map sizes m k
+  pub ready : Ready map m k
   pub formed : WellFormed o c
   pub bytes : Bytes (both m k)
   pub mem : length m ≡ length m₀
   pub marks : length k ≡ length k₀
   pub ends : run (b - n) n map o c (both m k) ≡ x
 
--- memory and marks as long as they were are prepared too
-pub still_prepared : {map sizes m k m₀ k₀ : List ℕ} → Prepared map sizes m₀ k₀ → length m ≡ length m₀ → length k ≡ length k₀ → Prepared map sizes m k
-still_prepared p h j =
-    record { ready = record { good = rw h p.ready.good; same = h ∙ p.ready.same ∙ sym j; small = omega (arith, p.ready.small) }; seen = p.seen }
+-- memory and marks as long as they were are ready too
+pub still_ready : {map m k m₀ k₀ : List ℕ} → Ready map m₀ k₀ → length m ≡ length m₀ → length k ≡ length k₀ → Ready map m k
+still_ready r h j = record { good = rw h r.good; same = h ∙ r.same ∙ sym j; small = omega (arith, r.small) }
 
-module _ {b n : ℕ} {map sizes m₀ k₀ m k : List ℕ} {x : Ended} {c : Cells} (o : Packed) (g : Going b map sizes m₀ k₀ x n (open_of o) c m k) where
+module _ {b n : ℕ} {map m₀ k₀ m k : List ℕ} {x : Ended} {c : Cells} (o : Packed) (g : Going b map m₀ k₀ x n (open_of o) c m k) where
   -- at the end of the budget
   pub all_done : b ≤ n → ended Done 0 n (open_of o) c (both m k) ≡ x
   all_done h = run_end b n map (open_of o) c (both m k) h ∙ g.ends
 
-  module _ (h : n < b) (w : Out) {d : Cells} {m' k' : List ℕ} (e : after (went_of o w) d (both m' k') ≡ step map (open_of o) c (both m k)) where
-    -- the step w went on
-    pub goes_on_lem : goes_on w.answer ≡ true → length m' ≡ length m → length k' ≡ length k → (p : Packed) → p ≡ next_of o w
-        → Going b map sizes m₀ k₀ x (n + 1) (open_of p) d m' k'
-    goes_on_lem t lm lk p q =
-        let e1 : next (open_of (next_of o w)) d (both m' k') ≡ step map (open_of o) c (both m k) = rw t at e in
-        let f = formed-on map (open_of o) c (both m k) e1 g.formed g.bytes in
+  module _ (h : n < b) {d : Cells} {m' k' : List ℕ} where
+    -- the step went on
+    pub goes_on : (w : Next) → after (Ok (open_of (next_of o w))) d (both m' k') ≡ step map (open_of o) c (both m k)
+        → length m' ≡ length m → length k' ≡ length k → (p : Packed) → p ≡ next_of o w
+        → Going b map m₀ k₀ x (n + 1) (open_of p) d m' k'
+    goes_on w e lm lk p q =
+        let f = formed-on map (open_of o) c (both m k) e g.formed g.bytes in
         record {
           within = omega arith;
-          prepared = still_prepared g.prepared lm lk;
+          ready = still_ready g.ready lm lk;
           formed = rw q f.0;
           bytes = f.1;
           mem = lm ∙ g.mem;
           marks = lk ∙ g.marks;
-          ends = rw q (run-next b n map (open_of o) c (both m k) h e1) ∙ g.ends;
+          ends = rw q (run-next b n map (open_of o) c (both m k) h e) ∙ g.ends;
         }
 
-    -- the step w was refused
-    pub stopped : goes_on w.answer ≡ false → ended w.answer w.place n (open_of o) d (both m' k') ≡ x
-    stopped t = run_refused b n map (open_of o) c (both m k) h (rw t at e) ∙ g.ends
+    -- the step was refused
+    pub stopped : (r : Refusal) → after (Err r) d (both m' k') ≡ step map (open_of o) c (both m k) → ended r.answer r.place n (open_of o) d (both m' k') ≡ x
+    stopped r e = run_refused b n map (open_of o) c (both m k) h e ∙ g.ends
 
 -- after a calm step nothing new comes before the next instruction
-pub still_calm : (o p : Packed) (w : Out) → acts (open_of o) ≡ false → p ≡ next_of o w → w.calm ≡ true → acts (open_of p) ≡ false
+pub still_calm : (o p : Packed) (w : Next) → acts (open_of o) ≡ false → p ≡ next_of o w → is_calm w ≡ true → acts (open_of p) ≡ false
 unfolding nmi_accepted code_accepted
-still_calm o p w a q h = rw (q, h) a
+still_calm o p (Calm pc) a q h = rw q a
+still_calm o p (Changed c) a q h = absurd (true≢false (sym h))

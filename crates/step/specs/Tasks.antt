@@ -1,41 +1,27 @@
 -- The code's way through a step: what the types that only the code uses stand for.
-use Rattle.std.specs.Prelude.{◌≡◌, ℕ, ◌-◌, ◌/◌, ◌%◌, ◌^◌, ◌<◌, ◌≤◌, Bool, true, false, cond, ◌||◌, List, length, ◌==◌}
+use Rattle.std.specs.Prelude.{◌≡◌, Option, Some, None, Result, Ok, Err, ⊤, ℕ, ◌-◌, ◌/◌, ◌%◌, ◌^◌, ◌<◌, ◌≤◌, Bool, true, false, ◌||◌, List, length, ◌==◌}
 use Rattle.insn.specs.declared.Decoded.{Decoded}
 use Rattle.insn.specs.declared.Decoded.TheVariants as decoded
 use Rattle.insn.specs.Coding.{in_range}
 use Rattle.machine.specs.declared.Open.{Open}
-use Rattle.machine.specs.declared.Answer.{Answer}
-use Rattle.machine.specs.declared.Answer.TheVariants.{Done, Size, Map, State, Asleep, NoFetch, Undefined, Leak, NoRead, NoWrite}
-use Rattle.machine.specs.declared.Went.{Went}
-use Rattle.machine.specs.declared.Went.TheVariants.{Next, Stop}
-use Rattle.step.specs.declared.Packed.{Packed}
-use Rattle.step.specs.declared.Out.{Out}
-use Rattle.step.specs.declared.Wide.{Wide}
-use Rattle.step.specs.declared.Fetched.{Fetched}
-use Rattle.step.specs.declared.Reached.{Reached}
-use Rattle.step.specs.declared.System.{System}
-use Rattle.step.specs.declared.System.TheVariants.{Trap, Halt, Reti, Di, Ei}
-use Rattle.step.specs.declared.Task.{Task}
-use Rattle.step.specs.declared.Task.TheVariants.{Compute, Load, Store, Bitwise, Jmp, Bcond, Jarl, Setf, Ldsr, Stsr, System as OfSystem}
+use Rattle.machine.specs.declared.Answer.TheVariants.{Done}
+use Rattle.machine.specs.declared.Refusal.{Refusal}
+use Rattle.machine.specs.declared.Ran.{Ran}
+use Rattle.step.specs.declared.unmarked.Packed.{Packed}
+use Rattle.step.specs.declared.unmarked.Next.{Next}
+use Rattle.step.specs.declared.unmarked.Next.TheVariants.{Calm, Changed}
+use Rattle.step.specs.declared.run.Reached.{Reached}
+use Rattle.step.specs.declared.tasks.System.{System}
+use Rattle.step.specs.declared.tasks.System.TheVariants.{Trap, Halt, Reti, Di, Ei}
+use Rattle.step.specs.declared.tasks.Task.{Task}
+use Rattle.step.specs.declared.tasks.Task.TheVariants.{Compute, Load, Store, Bitwise, Jmp, Bcond, Jarl, Setf, Ldsr, Stsr, System as OfSystem}
+use Rattle.state.specs.declared.map.Place.{Place}
 use Rattle.machine.specs.Marked.{Cells}
 use Rattle.machine.specs.Psw.{put_reg, condition}
 use Rattle.machine.specs.Regions.{good_map}
-use Rattle.state.specs.Windows.{Sizes}
 use Rattle.machine.specs.Operations.{operate}
 use Rattle.machine.specs.Run.{Ended, ended, run}
-use Rattle.machine.specs.Step.{Outcome, execute, refuse, next, plus, modes, waits, load, store, bitwise, jmp, bcond, jarl, ldsr, system, trap, reti, nmi_accepted, code_accepted}
-
-abbrev pub goes_on : Answer → Bool
-goes_on Done = true
-goes_on Size = false
-goes_on Map = false
-goes_on State = false
-goes_on Asleep = false
-goes_on NoFetch = false
-goes_on Undefined = false
-goes_on Leak = false
-goes_on NoRead = false
-goes_on NoWrite = false
+use Rattle.machine.specs.Step.{Went, Outcome, refuse, next, plus, modes, waits, load, store, bitwise, jmp, bcond, jarl, ldsr, system, trap, reti, nmi_accepted, code_accepted}
 
 -- what is never marked, out of the two numbers that hold it
 abbrev pub open_of : Packed → Open
@@ -64,19 +50,24 @@ pub record Fits (o : Open) : Type 0 where
 abbrev pub acts : Open → Bool
 acts o = nmi_accepted o || (code_accepted o || o.halted == 1)
 
--- how a step went
-abbrev pub went_to : Answer → ℕ → Open → Went
-went_to a place o = cond (goes_on a) (Next o) (Stop a place)
-
 -- the state after a step from o that went on: a calm one changes PC alone
-abbrev pub next_of : Packed → Out → Packed
-next_of o w = cond w.calm (record { pc = w.core.pc; rest = o.rest }) w.core
+abbrev pub next_of : Packed → Next → Packed
+next_of o (Calm pc) = record { pc = pc; rest = o.rest }
+next_of o (Changed c) = c
 
-abbrev pub went_of : Packed → Out → Went
-went_of o w = went_to w.answer w.place (open_of (next_of o w))
+abbrev pub is_calm : Next → Bool
+is_calm (Calm pc) = true
+is_calm (Changed c) = false
 
-abbrev pub went_wide : Wide → Went
-went_wide w = went_to w.answer w.place w.open
+-- how a step from o went
+abbrev pub went_of : Packed → Result Next Refusal → Went
+went_of o (Ok n) = Ok (open_of (next_of o n))
+went_of o (Err r) = Err r
+
+-- how a step went that leads to o, unless it is refused
+abbrev pub went_on : Result ⊤ Refusal → Open → Went
+went_on (Ok u) o = Ok o
+went_on (Err r) o = Err r
 
 unfoldable pub do_system : System → Open → Cells → Cells → Outcome
 do_system (Trap vector) o c m = trap vector o c m
@@ -125,14 +116,14 @@ pub record Ready (map mem marks : List ℕ) : Type 0 where
   pub same : length mem ≡ length marks
   pub small : length mem ≤ 2 ^ 16
 
--- the same with the sizes that the code finds addresses by
-pub record Prepared (map sizes mem marks : List ℕ) : Type 0 where
-  pub ready : Ready map mem marks
-  pub seen : Sizes map sizes
+-- a halfword that was fetched, carried on, or the refusal
+abbrev pub fetched : Result ℕ Refusal → Cells → Cells → (ℕ → Outcome) → Outcome
+fetched (Ok h) c m k = k h
+fetched (Err r) c m k = refuse r.answer r.place c m
 
--- what a fetch found, carried on
-abbrev pub fetched : Fetched → List ℕ → Open → Cells → Cells → Outcome
-fetched f map o c m = cond (goes_on f.answer) (execute f.decoded map o c m) (refuse f.answer f.place c m)
+abbrev pub halfword_of : Result (ℕ × Place) Refusal → Result ℕ Refusal
+halfword_of (Ok h) = Ok h.0
+halfword_of (Err r) = Err r
 
 -- a decoded instruction is in range
 abbrev pub DecodedFields : Decoded → Type 0
@@ -140,7 +131,17 @@ DecodedFields (decoded.Valid i) = in_range i ≡ true
 DecodedFields decoded.Illegal = Unit
 DecodedFields decoded.Undefined = Unit
 
--- the end of a run that has come this far
+-- the end of a run that has come this far: there, by its refusal if there is one, or further on
+abbrev pub ran_by : Option Refusal → ℕ → Open → Ran
+ran_by (Some r) n o = record { answer = r.answer; place = r.place; steps = n; core = o }
+ran_by None n o = record { answer = Done; place = 0; steps = n; core = o }
+
+abbrev pub ran_to : Reached → Ran
+ran_to r = ran_by r.stop r.steps (open_of r.core)
+
+abbrev pub goes_by : Option Refusal → ℕ → ℕ → List ℕ → Open → Cells → Cells → Ended
+goes_by (Some r) budget n map o c m = ended r.answer r.place n o c m
+goes_by None budget n map o c m = run (budget - n) n map o c m
+
 abbrev pub goes_from : ℕ → List ℕ → Reached → Cells → Cells → Ended
-goes_from budget map r c m =
-    cond (goes_on r.answer) (run (budget - r.steps) r.steps map (open_of r.core) c m) (ended r.answer r.place r.steps (open_of r.core) c m)
+goes_from budget map r c m = goes_by r.stop budget r.steps map (open_of r.core) c m

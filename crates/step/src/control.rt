@@ -1,16 +1,18 @@
 // Jumps, branches, system registers, exceptions and returns. None of them touches memory.
-ghost use Rattle.std.specs.Prelude.{◌≡◌, ◌/◌, ◌%◌, ◌^◌, ◌<◌};
-ghost use Rattle.machine.specs.Marked.{Cells, both, lift1, put};
+ghost use Rattle.std.specs.Prelude.{◌≡◌, cond, Ok, Err, IfOk, ◌/◌, ◌%◌, ◌^◌, ◌<◌};
+ghost use Rattle.machine.specs.declared.Answer.TheVariants.{Leak};
+ghost use Rattle.machine.specs.Marked.{plain, Cells, lift1, put};
 ghost use Rattle.machine.specs.Psw.{put_reg, condition, sys, bits, put_psw_flags};
 ghost use Rattle.machine.specs.Step.{after, reveal, next, plus, modes, save_pc, save_psw, jmp, bcond, jarl, ldsr, system, exception, trap, illegal, return, reti, nmi_accepted, code_accepted, take_nmi, take_code};
-ghost use Rattle.step.specs.Tasks.{open_of, went_of, went_wide};
+ghost use Rattle.step.specs.Tasks.{open_of, Fits, next_of, went_of};
 
-use crate::{Out, Packed, Wide, parts, unmarked};
-use machine::{Open, Tv};
-use state::{CELLS, cells, psw};
+use crate::unmarked::{Next, Packed, leak, reveal};
+use machine::{Open, Refusal, Tv};
+use state::cells::Cells;
+use state::psw;
 use word::extend;
 
-// The system registers' numbers. Register n has cell 32 + n.
+// The system registers' numbers, as LDSR's and STSR's field and the definition (`sys`) have them. Register n has cell 32 + n.
 const EIPC: u32 = 0;
 
 const EIPSW: u32 = 1;
@@ -18,6 +20,8 @@ const EIPSW: u32 = 1;
 const FEPC: u32 = 2;
 
 const FEPSW: u32 = 3;
+
+const ECR: u32 = 4;
 
 fn sys(n: u32) -> u32
     requires { n < 6 }
@@ -27,100 +31,71 @@ fn sys(n: u32) -> u32
 }
 
 // JMP.
-pub fn jmp(reg1: u32, o: Packed, cells: &[u32; CELLS], tags: &[u8; CELLS]) -> Out
-    requires { reg1 < 32 }
-    ensures { (m : Cells) → after (went_of o result) (both cells.now tags.now) m ≡ jmp reg1 (open_of o) (both cells.now tags.now) m }
+#[tactic(auto, unfolding(machine::specs::Step::jmp, machine::specs::Step::reveal))]
+pub fn jmp(reg1: u32, o: Packed, cells: &Cells) -> Result<Next, Refusal>
+    ensures { (m : Cells) → after (went_of o result) cells.now m ≡ jmp reg1 (open_of o) cells.now m }
 {
-    let a = cells::reg(cells, tags, reg1);
-    if a.mark {
-        return unmarked::leak(o);
-    }
-    unmarked::goto(a.val % 0x1000000 / 2 * 2, o)
+    let a = reveal(cells.reg(reg1), o.pc())?;
+    Ok(o.goto(a % 0x1000000 / 2 * 2))
 }
 
 // Bcond: the displacement counts from the instruction's own address.
-pub fn bcond(cond: u32, disp: u32, o: Packed, cells: &[u32; CELLS], tags: &[u8; CELLS]) -> Out
-    ensures { (m : Cells) → after (went_of o result) (both cells.now tags.now) m ≡ bcond cond disp (open_of o) (both cells.now tags.now) m }
+#[tactic(auto, unfolding(machine::specs::Step::bcond, machine::specs::Step::reveal))]
+pub fn bcond(cond: u32, disp: u32, o: Packed, cells: &Cells) -> Result<Next, Refusal>
+    ensures { (m : Cells) → after (went_of o result) cells.now m ≡ bcond cond disp (open_of o) cells.now m }
 {
-    let t = psw::condition(cond, cells, tags);
+    // by hand, as `reveal` costs each branch some instructions here
+    let t = cells.condition(cond);
     if t.mark {
-        return unmarked::leak(o);
+        return Err(leak(o.pc()));
     }
     if t.val == 0 {
-        return unmarked::plus(2, o);
+        return Ok(o.plus(2));
     }
-    unmarked::plus(disp, o)
+    Ok(o.plus(disp))
 }
 
 // JARL: the link is the next PC.
-pub fn jarl(
-    disp: u32,
-    reg2: u32,
-    o: Packed,
-    cells: &mut [u32; CELLS],
-    tags: &mut [u8; CELLS],
-) -> Out
-    requires { reg2 < 32 }
-    ensures { (m : Cells) → after (went_of o result) (both cells.new tags.new) m ≡ jarl disp reg2 (open_of o) (both cells.old tags.old) m }
+#[tactic(auto, unfolding(machine::specs::Step::jarl))]
+pub fn jarl(disp: u32, reg2: u32, o: Packed, cells: &mut Cells) -> Next
+    ensures { (m : Cells) → next (open_of (next_of o result)) cells.new m ≡ jarl disp reg2 (open_of o) cells.old m }
 {
-    cells::put_reg(
-        cells,
-        tags,
-        reg2,
-        Tv {
-            val: extend::sum24(unmarked::pc(o), 4),
-            mark: false,
-        },
-    );
-    unmarked::plus(disp, o)
+    cells.put_reg(reg2, Tv::plain(extend::sum24(o.pc(), 4)));
+    o.plus(disp)
 }
 
 // SETF.
-pub fn setf(
-    cond: u32,
-    reg2: u32,
-    o: Packed,
-    cells: &mut [u32; CELLS],
-    tags: &mut [u8; CELLS],
-) -> Out
-    requires { reg2 < 32 }
-    ensures { (m : Cells) → after (went_of o result) (both cells.new tags.new) m ≡ next (plus 4 (open_of o)) (put_reg reg2 (condition cond (both cells.old tags.old)) (both cells.old tags.old)) m }
+pub fn setf(cond: u32, reg2: u32, o: Packed, cells: &mut Cells) -> Next
+    ensures { (m : Cells) → next (open_of (next_of o result)) cells.new m ≡ next (plus 4 (open_of o)) (put_reg reg2 (condition cond cells.old) cells.old) m }
 {
-    let t = psw::condition(cond, &*cells, &*tags);
-    cells::put_reg(cells, tags, reg2, t);
-    unmarked::plus(4, o)
+    let t = cells.condition(cond);
+    cells.put_reg(reg2, t);
+    o.plus(4)
 }
 
 // LDSR to PSW: its bits choose whether requests are accepted, so a marked value is refused. One that leaves NP, EP and ID as they are is
 // calm.
-fn load_psw(v: Tv, o: Packed, cells: &mut [u32; CELLS], tags: &mut [u8; CELLS]) -> Out
-    ensures { (m : Cells) → after (went_of o result) (both cells.new tags.new) m ≡ reveal (open_of o) (both cells.old tags.old) m v (λ w. next (plus 4 (modes (w / 2 ^ 7 % 2) (w / 2 ^ 6 % 2) (w / 2 ^ 5 % 2) (open_of o))) (put_psw_flags (bits w 0) (both cells.old tags.old)) m) }
+#[tactic(auto, unfolding(machine::specs::Step::reveal))]
+fn load_psw(v: Tv, o: Packed, cells: &mut Cells) -> Result<Next, Refusal>
+    ensures { (m : Cells) → after (went_of o result) cells.new m ≡ reveal (open_of o) cells.old m v (λ w. next (plus 4 (modes (w / 2 ^ 7 % 2) (w / 2 ^ 6 % 2) (w / 2 ^ 5 % 2) (open_of o))) (put_psw_flags (bits w 0) cells.old) m) }
 {
-    if v.mark {
-        return unmarked::leak(o);
+    let w = reveal(v, o.pc())?;
+    cells.put_flags(w, 0);
+    if o.mode_bits() == w / psw::ID % 8 {
+        return Ok(o.plus(4));
     }
-    let w = v.val;
-    psw::put_flags(w, 0, cells, tags);
-    if unmarked::mode_bits(o) == w / psw::ID % 8 {
-        return unmarked::plus(4, o);
-    }
-    let n = parts::modes(
-        w / psw::NP % 2,
-        w / psw::EP % 2,
-        w / psw::ID % 2,
-        unmarked::unpack(o),
-    );
-    unmarked::settle(parts::next(parts::plus(4, n)), o)
+    let n = o
+        .unpack()
+        .modes(w / psw::NP % 2, w / psw::EP % 2, w / psw::ID % 2);
+    Ok(Next::Changed(Packed::pack(n.plus(4))))
 }
 
 // LDSR to the saved PC in system register n.
-fn load_pc(n: u32, v: Tv, cells: &mut [u32; CELLS], tags: &mut [u8; CELLS])
+fn load_pc(n: u32, v: Tv, cells: &mut Cells)
     requires { n < 6 }
-    ensures { both cells.new tags.new ≡ put (sys n) (lift1 (λ w. w % 2 ^ 24) v) (both cells.old tags.old) }
+    ensures { cells.new ≡ put (sys n) (lift1 (λ w. w % 2 ^ 24) v) cells.old }
 {
-    cells::put(
-        cells,
-        tags,
+    cells.put(
         sys(n),
         Tv {
             val: v.val % 0x1000000,
@@ -129,156 +104,114 @@ fn load_pc(n: u32, v: Tv, cells: &mut [u32; CELLS], tags: &mut [u8; CELLS])
     );
 }
 
-pub fn ldsr(
-    reg2: u32,
-    regid: u32,
-    o: Packed,
-    cells: &mut [u32; CELLS],
-    tags: &mut [u8; CELLS],
-) -> Out
-    requires { reg2 < 32 }
-    ensures { (m : Cells) → after (went_of o result) (both cells.new tags.new) m ≡ ldsr reg2 regid (open_of o) (both cells.old tags.old) m }
+#[tactic(auto, unfolding(machine::specs::Step::ldsr))]
+pub fn ldsr(reg2: u32, regid: u32, o: Packed, cells: &mut Cells) -> Result<Next, Refusal>
+    ensures { (m : Cells) → after (went_of o result) cells.new m ≡ ldsr reg2 regid (open_of o) cells.old m }
 {
-    let v = cells::reg(&*cells, &*tags, reg2);
+    let v = cells.reg(reg2);
     match regid {
-        0 => {
-            load_pc(EIPC, v, cells, tags);
-            unmarked::plus(4, o)
-        }
-        1 => {
-            psw::put_spread(sys(EIPSW), v, cells, tags);
-            unmarked::plus(4, o)
-        }
-        2 => {
-            load_pc(FEPC, v, cells, tags);
-            unmarked::plus(4, o)
-        }
-        3 => {
-            psw::put_spread(sys(FEPSW), v, cells, tags);
-            unmarked::plus(4, o)
-        }
-        _ => load_psw(v, o, cells, tags),
+        EIPC => load_pc(EIPC, v, cells),
+        EIPSW => cells.put_spread(sys(EIPSW), v),
+        FEPC => load_pc(FEPC, v, cells),
+        FEPSW => cells.put_spread(sys(FEPSW), v),
+        _ => return load_psw(v, o, cells),
     }
+    Ok(o.plus(4))
 }
 
 // The system register regid as a value.
-fn system_value(regid: u32, o: Open, cells: &[u32; CELLS], tags: &[u8; CELLS]) -> Tv
-    ensures { result ≡ system regid o (both cells.now tags.now) }
+#[tactic(auto, unfolding(machine::specs::Step::system))]
+fn system_value(regid: u32, o: Open, cells: &Cells) -> Tv
+    ensures { result ≡ system regid o cells.now }
 {
     match regid {
-        0 => cells::get(cells, tags, sys(EIPC)),
-        1 => psw::gathered(sys(EIPSW), cells, tags),
-        2 => cells::get(cells, tags, sys(FEPC)),
-        3 => psw::gathered(sys(FEPSW), cells, tags),
-        4 => Tv {
-            val: o.ecr,
-            mark: false,
-        },
-        _ => psw::gathered_psw(o, cells, tags),
+        EIPC => cells.get(sys(EIPC)),
+        EIPSW => cells.gathered(sys(EIPSW)),
+        FEPC => cells.get(sys(FEPC)),
+        FEPSW => cells.gathered(sys(FEPSW)),
+        ECR => Tv::plain(o.ecr),
+        _ => cells.gathered_psw(o),
     }
 }
 
-pub fn stsr(
-    regid: u32,
-    reg2: u32,
-    o: Packed,
-    cells: &mut [u32; CELLS],
-    tags: &mut [u8; CELLS],
-) -> Out
-    requires { reg2 < 32 }
-    ensures { (m : Cells) → after (went_of o result) (both cells.new tags.new) m ≡ next (plus 4 (open_of o)) (put_reg reg2 (system regid (open_of o) (both cells.old tags.old)) (both cells.old tags.old)) m }
+pub fn stsr(regid: u32, reg2: u32, o: Packed, cells: &mut Cells) -> Next
+    ensures { (m : Cells) → next (open_of (next_of o result)) cells.new m ≡ next (plus 4 (open_of o)) (put_reg reg2 (system regid (open_of o) cells.old) cells.old) m }
 {
-    let v = system_value(regid, unmarked::unpack(o), &*cells, &*tags);
-    cells::put_reg(cells, tags, reg2, v);
-    unmarked::plus(4, o)
+    let v = system_value(regid, o.unpack(), &*cells);
+    cells.put_reg(reg2, v);
+    o.plus(4)
 }
 
 // A PC and PSW to the saved registers pc and psw.
-fn save(value: u32, pc: u32, psw: u32, o: Open, cells: &mut [u32; CELLS], tags: &mut [u8; CELLS])
+fn save(value: u32, pc: u32, psw: u32, o: Open, cells: &mut Cells)
     requires { (pc < 6) × (psw < 6) }
-    ensures { both cells.new tags.new ≡ save_pc pc value (save_psw psw o (both cells.old tags.old)) }
+    ensures { cells.new ≡ save_pc pc value (save_psw psw o cells.old) }
 {
-    psw::save_psw(sys(psw), o, cells, tags);
-    cells::put(
-        cells,
-        tags,
-        sys(pc),
-        Tv {
-            val: value,
-            mark: false,
-        },
-    );
+    cells.save_psw(sys(psw), o);
+    cells.put(sys(pc), Tv::plain(value));
 }
 
-fn exception(
-    code: u32,
-    target: u32,
-    np: u32,
-    o: Open,
-    cells: &mut [u32; CELLS],
-    tags: &mut [u8; CELLS],
-) -> Wide
+#[tactic(auto, unfolding(machine::specs::Step::exception))]
+fn exception(code: u32, target: u32, np: u32, o: Open, cells: &mut Cells) -> Open
     requires { code < 2 ^ 16 }
-    ensures { (m : Cells) → after (went_wide result) (both cells.new tags.new) m ≡ exception code target np o (both cells.old tags.old) m }
+    ensures goes { (m : Cells) → next result cells.new m ≡ exception code target np o cells.old m }
+    ensures fits { np < 2 → Fits o → Fits result }
 {
-    save(extend::sum24(o.pc, 4), EIPC, EIPSW, o, cells, tags);
-    parts::next(parts::goto(target, parts::eicc(code, parts::modes(np, 1, 1, o))))
+    save(extend::sum24(o.pc, 4), EIPC, EIPSW, o, cells);
+    o.modes(np, 1, 1).eicc(code).goto(target)
 }
 
-pub fn trap(vector: u32, o: Open, cells: &mut [u32; CELLS], tags: &mut [u8; CELLS]) -> Wide
+#[tactic(auto, unfolding(machine::specs::Step::trap))]
+pub fn trap(vector: u32, o: Open, cells: &mut Cells) -> Open
     requires { vector < 32 }
-    ensures { (m : Cells) → after (went_wide result) (both cells.new tags.new) m ≡ trap vector o (both cells.old tags.old) m }
+    ensures goes { (m : Cells) → next result cells.new m ≡ trap vector o cells.old m }
+    ensures fits { Fits o → Fits result }
 {
     let target = if vector < 0x10 { 0x40 } else { 0x50 };
-    exception(0x40 + vector, target, o.np, o, cells, tags)
+    exception(0x40 + vector, target, o.np, o, cells)
 }
 
-pub fn illegal(o: Open, cells: &mut [u32; CELLS], tags: &mut [u8; CELLS]) -> Wide
-    ensures { (m : Cells) → after (went_wide result) (both cells.new tags.new) m ≡ illegal o (both cells.old tags.old) m }
+#[tactic(auto, unfolding(machine::specs::Step::illegal))]
+pub fn illegal(o: Open, cells: &mut Cells) -> Open
+    ensures goes { (m : Cells) → next result cells.new m ≡ illegal o cells.old m }
+    ensures fits { Fits o → Fits result }
 {
-    exception(0x60, 0x60, o.np, o, cells, tags)
+    exception(0x60, 0x60, o.np, o, cells)
 }
 
 // Back to the saved PC and PSW in the registers pc and psw.
-fn return_to(pc: u32, psw: u32, o: Open, cells: &mut [u32; CELLS], tags: &mut [u8; CELLS]) -> Wide
+fn return_to(pc: u32, psw: u32, o: Open, cells: &mut Cells) -> Result<Open, Refusal>
     requires { (pc < 6) × (psw < 6) }
-    ensures { (m : Cells) → after (went_wide result) (both cells.new tags.new) m ≡ return pc psw o (both cells.old tags.old) m }
+    ensures goes { (m : Cells) → after result cells.new m ≡ return pc psw o cells.old m }
+    ensures fits { Fits o → IfOk result Fits }
 {
-    let a = cells::get(&*cells, &*tags, sys(pc));
-    if a.mark {
-        return parts::leak(o);
-    }
-    let b = psw::mode(sys(psw), &*cells, &*tags);
-    if b.mark {
-        return parts::leak(o);
-    }
-    let k = sys(psw) as usize;
-    let w = cells[k];
-    let m = tags[k];
-    psw::put_flags(w, m, cells, tags);
-    parts::next(parts::goto(
-        a.val / 2 * 2,
-        parts::modes(b.val / 4 % 2, b.val / 2 % 2, b.val % 2, o),
-    ))
+    let a = reveal(cells.get(sys(pc)), o.pc)?;
+    let b = reveal(cells.mode(sys(psw)), o.pc)?;
+    cells.restore_flags(sys(psw));
+    Ok(o.modes(b / 4 % 2, b / 2 % 2, b % 2).goto(a / 2 * 2))
 }
 
-pub fn reti(o: Open, cells: &mut [u32; CELLS], tags: &mut [u8; CELLS]) -> Wide
-    ensures { (m : Cells) → after (went_wide result) (both cells.new tags.new) m ≡ reti o (both cells.old tags.old) m }
+#[tactic(auto, unfolding(machine::specs::Step::reti))]
+pub fn reti(o: Open, cells: &mut Cells) -> Result<Open, Refusal>
+    ensures goes { (m : Cells) → after result cells.new m ≡ reti o cells.old m }
+    ensures fits { Fits o → IfOk result Fits }
 {
     if o.ep == 0 {
         if o.np == 1 {
-            return return_to(FEPC, FEPSW, o, cells, tags);
+            return return_to(FEPC, FEPSW, o, cells);
         }
     }
-    return_to(EIPC, EIPSW, o, cells, tags)
+    return_to(EIPC, EIPSW, o, cells)
 }
 
+#[tactic(auto, unfolding(machine::specs::Step::nmi_accepted))]
 pub fn nmi_accepted(o: Open) -> bool
     ensures { result ≡ nmi_accepted o }
 {
     (o.nmi == 1) & (o.np == 0)
 }
 
+#[tactic(auto, unfolding(machine::specs::Step::code_accepted))]
 pub fn code_accepted(o: Open) -> bool
     ensures { result ≡ code_accepted o }
 {
@@ -286,27 +219,25 @@ pub fn code_accepted(o: Open) -> bool
 }
 
 // An NMI is accepted: it is cleared, and HALT ends.
-pub fn take_nmi(o: Open, cells: &mut [u32; CELLS], tags: &mut [u8; CELLS]) -> Wide
-    ensures { (m : Cells) → after (went_wide result) (both cells.new tags.new) m ≡ take_nmi o (both cells.old tags.old) m }
+#[tactic(auto, unfolding(machine::specs::Step::take_nmi))]
+pub fn take_nmi(o: Open, cells: &mut Cells) -> Open
+    ensures goes { (m : Cells) → next result cells.new m ≡ take_nmi o cells.old m }
+    ensures fits { Fits o → Fits result }
 {
-    save(o.pc, FEPC, FEPSW, o, cells, tags);
-    parts::next(parts::goto(
-        0x10,
-        parts::fecc(0x10, parts::modes(1, 0, 1, parts::waits(o.code, 0, 0, o))),
-    ))
+    save(o.pc, FEPC, FEPSW, o, cells);
+    o.waits(o.code, 0, 0).modes(1, 0, 1).fecc(0x10).goto(0x10)
 }
 
 // A maskable code is accepted: it is cleared, and HALT ends.
-pub fn take_code(o: Open, cells: &mut [u32; CELLS], tags: &mut [u8; CELLS]) -> Wide
+#[tactic(auto, unfolding(machine::specs::Step::take_code))]
+pub fn take_code(o: Open, cells: &mut Cells) -> Open
     requires { o.code < 2 ^ 16 }
-    ensures { (m : Cells) → after (went_wide result) (both cells.new tags.new) m ≡ take_code o (both cells.old tags.old) m }
+    ensures goes { (m : Cells) → next result cells.new m ≡ take_code o cells.old m }
+    ensures fits { Fits o → Fits result }
 {
-    save(o.pc, EIPC, EIPSW, o, cells, tags);
-    parts::next(parts::goto(
-        o.code,
-        parts::eicc(
-            o.code,
-            parts::modes(o.np, 0, 1, parts::waits(0, o.nmi, 0, o)),
-        ),
-    ))
+    save(o.pc, EIPC, EIPSW, o, cells);
+    o.waits(0, o.nmi, 0)
+        .modes(o.np, 0, 1)
+        .eicc(o.code)
+        .goto(o.code)
 }

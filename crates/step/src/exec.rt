@@ -1,40 +1,45 @@
 // One step: what comes before the next instruction; or fetch, decode, and the instruction's task.
-ghost use Rattle.std.specs.Prelude.{◌≡◌, ℕ, ◌%◌, true, List};
+ghost use Rattle.std.specs.Prelude.{◌≡◌, IfOk, ℕ, ◌%◌, true, List};
 ghost use Rattle.machine.specs.Marked.{Cells, both};
 ghost use Rattle.machine.specs.Step.{after, execute, instruction, step};
-ghost use Rattle.step.specs.Tasks.{open_of, went_of, went_wide, acts, do_system, do_task, SystemFields, TaskFields, DecodedFields, Prepared};
+ghost use Rattle.step.specs.Tasks.{open_of, Fits, went_of, acts, do_system, do_task, SystemFields, TaskFields, DecodedFields, Ready};
 
-use crate::{Out, Packed, System, Task, Wide, control, fetch, parts, tasks, transfer, unmarked};
-use insn::{Decoded, Size};
-use machine::{Answer, Open};
-use state::{CELLS, MAP, SIZES, operations};
+use crate::tasks::{System, Task};
+use crate::unmarked::{Next, Packed};
+use crate::{control, fetch, tasks, transfer};
+use insn::{Decoded, decode};
+use machine::{Answer, Open, Refusal};
+use state::cells::Cells;
+use state::map::Map;
 
-fn system(s: System, o: Open, cells: &mut [u32; CELLS], tags: &mut [u8; CELLS]) -> Wide
+#[tactic(auto, unfolding(crate::specs::Tasks::do_system))]
+fn system(s: System, o: Open, cells: &mut Cells) -> Result<Open, Refusal>
     requires { SystemFields s }
-    ensures { (m : Cells) → after (went_wide result) (both cells.new tags.new) m ≡ do_system s o (both cells.old tags.old) m }
+    ensures goes { (m : Cells) → after result cells.new m ≡ do_system s o cells.old m }
+    ensures fits { Fits o → IfOk result Fits }
 {
     match s {
-        System::Trap { vector } => control::trap(vector, o, cells, tags),
-        System::Halt => parts::next(parts::plus(4, parts::waits(o.code, o.nmi, 1, o))),
-        System::Reti => control::reti(o, cells, tags),
-        System::Di => parts::next(parts::plus(4, parts::modes(o.np, o.ep, 1, o))),
-        System::Ei => parts::next(parts::plus(4, parts::modes(o.np, o.ep, 0, o))),
+        System::Trap { vector } => Ok(control::trap(vector, o, cells)),
+        System::Halt => Ok(o.waits(o.code, o.nmi, 1).plus(4)),
+        System::Reti => control::reti(o, cells),
+        System::Di => Ok(o.modes(o.np, o.ep, 1).plus(4)),
+        System::Ei => Ok(o.modes(o.np, o.ep, 0).plus(4)),
     }
 }
 
-// A task, carried out.
+// A task, carried out. Map, cells and memory go one by one here and below: the map is only read, and memory and marks are the two slices
+// that the host lends (C interface; `state`, memory).
+#[tactic(auto, unfolding(crate::specs::Tasks::do_task))]
 fn perform(
     t: Task,
-    map: &[u32; MAP],
-    sizes: &[u32; SIZES],
+    map: &Map,
     o: Packed,
-    cells: &mut [u32; CELLS],
-    tags: &mut [u8; CELLS],
+    cells: &mut Cells,
     mem: &mut [u8],
     marks: &mut [u8],
-) -> Out
-    requires { Prepared map.now sizes.now mem.old marks.old × TaskFields t }
-    ensures { after (went_of o result) (both cells.new tags.new) (both mem.new marks.new) ≡ do_task t map.now (open_of o) (both cells.old tags.old) (both mem.old marks.old) }
+) -> Result<Next, Refusal>
+    requires { Ready map.now mem.old marks.old × TaskFields t }
+    ensures { after (went_of o result) cells.new (both mem.new marks.new) ≡ do_task t map.now (open_of o) cells.old (both mem.old marks.old) }
 {
     match t {
         Task::Compute {
@@ -44,8 +49,8 @@ fn perform(
             target,
             len,
         } => {
-            operations::operate(op, x, y, target, cells, tags);
-            unmarked::plus(len, o)
+            cells.operate(op, x, y, target);
+            Ok(o.plus(len))
         }
         Task::Load {
             size,
@@ -53,107 +58,121 @@ fn perform(
             base,
             target,
             len,
-        } => transfer::load(
-            size, disp, base, target, len, map, sizes, o, cells, tags, &*mem, &*marks,
-        ),
+        } => {
+            transfer::load(size, disp, base, target, map, o, cells, &*mem, &*marks)?;
+            Ok(o.plus(len))
+        }
         Task::Store {
             size,
             disp,
             base,
             source,
             len,
-        } => transfer::store(
-            size, disp, base, source, len, map, sizes, o, &*cells, &*tags, mem, marks,
-        ),
+        } => {
+            transfer::store(size, disp, base, source, map, o, &*cells, mem, marks)?;
+            Ok(o.plus(len))
+        }
         Task::Bitwise {
             op,
             bit,
             disp,
             base,
-        } => transfer::bitwise(
-            op, bit, disp, base, map, sizes, o, cells, tags, mem, &*marks,
-        ),
-        Task::Jmp { reg1 } => control::jmp(reg1, o, &*cells, &*tags),
-        Task::Bcond { cond, disp } => control::bcond(cond, disp, o, &*cells, &*tags),
-        Task::Jarl { disp, reg2 } => control::jarl(disp, reg2, o, cells, tags),
-        Task::Setf { cond, reg2 } => control::setf(cond, reg2, o, cells, tags),
-        Task::Ldsr { reg2, regid } => control::ldsr(reg2, regid, o, cells, tags),
-        Task::Stsr { regid, reg2 } => control::stsr(regid, reg2, o, cells, tags),
+        } => {
+            transfer::bitwise(op, bit, disp, base, map, o, cells, mem, &*marks)?;
+            Ok(o.plus(4))
+        }
+        Task::Jmp { reg1 } => control::jmp(reg1, o, &*cells),
+        Task::Bcond { cond, disp } => control::bcond(cond, disp, o, &*cells),
+        Task::Jarl { disp, reg2 } => Ok(control::jarl(disp, reg2, o, cells)),
+        Task::Setf { cond, reg2 } => Ok(control::setf(cond, reg2, o, cells)),
+        Task::Ldsr { reg2, regid } => control::ldsr(reg2, regid, o, cells),
+        Task::Stsr { regid, reg2 } => Ok(control::stsr(regid, reg2, o, cells)),
         Task::System(s) => {
-            let w = system(s, unmarked::unpack(o), cells, tags);
-            unmarked::settle(w, o)
-        },
+            let n = system(s, o.unpack(), cells)?;
+            Ok(Next::Changed(Packed::pack(n)))
+        }
     }
 }
 
 // What decoding gave, carried out.
+#[tactic(auto, unfolding(machine::specs::Step::execute))]
 fn execute(
     d: Decoded,
-    map: &[u32; MAP],
-    sizes: &[u32; SIZES],
+    map: &Map,
     o: Packed,
-    cells: &mut [u32; CELLS],
-    tags: &mut [u8; CELLS],
+    cells: &mut Cells,
     mem: &mut [u8],
     marks: &mut [u8],
-) -> Out
-    requires { Prepared map.now sizes.now mem.old marks.old × DecodedFields d }
-    ensures { after (went_of o result) (both cells.new tags.new) (both mem.new marks.new) ≡ execute d map.now (open_of o) (both cells.old tags.old) (both mem.old marks.old) }
+) -> Result<Next, Refusal>
+    requires { Ready map.now mem.old marks.old × DecodedFields d }
+    ensures { after (went_of o result) cells.new (both mem.new marks.new) ≡ execute d map.now (open_of o) cells.old (both mem.old marks.old) }
 {
     match d {
         Decoded::Valid(i) => {
-            let t = tasks::task_of(i, &*cells, &*tags);
-            perform(t, map, sizes, o, cells, tags, mem, marks)
+            let t = tasks::task_of(i, &*cells);
+            perform(t, map, o, cells, mem, marks)
         }
         Decoded::Illegal => {
-            let w = control::illegal(unmarked::unpack(o), cells, tags);
-            unmarked::settle(w, o)
+            let n = control::illegal(o.unpack(), cells);
+            Ok(Next::Changed(Packed::pack(n)))
         }
-        Decoded::Undefined => unmarked::refuse(Answer::Undefined, unmarked::pc(o), o),
+        Decoded::Undefined => Err(Refusal {
+            answer: Answer::Undefined,
+            place: o.pc(),
+        }),
     }
 }
 
 // The instruction at PC.
 pub fn instruction(
-    map: &[u32; MAP],
-    sizes: &[u32; SIZES],
+    map: &Map,
     o: Packed,
-    cells: &mut [u32; CELLS],
-    tags: &mut [u8; CELLS],
+    cells: &mut Cells,
     mem: &mut [u8],
     marks: &mut [u8],
-) -> Out
-    requires { Prepared map.now sizes.now mem.old marks.old × ((open_of o).pc % 2 ≡ 0) }
-    ensures { after (went_of o result) (both cells.new tags.new) (both mem.new marks.new) ≡ instruction map.now (open_of o) (both cells.old tags.old) (both mem.old marks.old) }
+) -> Result<Next, Refusal>
+    requires { Ready map.now mem.old marks.old × ((open_of o).pc % 2 ≡ 0) }
+    ensures { after (went_of o result) cells.new (both mem.new marks.new) ≡ instruction map.now (open_of o) cells.old (both mem.old marks.old) }
 {
-    let f = fetch::fetch(map, sizes, unmarked::pc(o), &*mem, &*marks);
-    let answer = f.answer;
-    let decoded = f.decoded;
-    match answer {
-        Answer::Done => execute(decoded, map, sizes, o, cells, tags, mem, marks),
-        _ => unmarked::refuse(answer, f.place, o),
-    }
+    let pc = o.pc();
+    let (first, p) = fetch::first(map, pc, &*mem, &*marks)?;
+    let reg2 = decode::reg2_of(first);
+    let opcode = decode::opcode_of(first);
+    let reg1 = decode::reg1_of(first);
+    let d = if decode::is_long(first as u16) {
+        let second = fetch::second(map, pc, p, &*mem, &*marks)?;
+        decode::long(reg2, opcode, reg1, second)
+    } else {
+        decode::short(first, reg2, opcode, reg1)
+    };
+    execute(d, map, o, cells, mem, marks)
 }
 
 // Something comes before the next instruction: an NMI or a maskable code is accepted, or HALT's state goes on.
 pub fn acts(o: Packed) -> bool
     ensures { result ≡ acts (open_of o) }
 {
-    let w = unmarked::unpack(o);
+    let w = o.unpack();
     control::nmi_accepted(w) | (control::code_accepted(w) | (w.halted == 1))
 }
 
 // The step of what comes before the next instruction.
-pub fn attend(o: Packed, cells: &mut [u32; CELLS], tags: &mut [u8; CELLS]) -> Out
+#[tactic(auto, unfolding(machine::specs::Step::step))]
+pub fn attend(o: Packed, cells: &mut Cells) -> Result<Next, Refusal>
     requires { acts (open_of o) ≡ true }
-    ensures { (map : List ℕ) (m : Cells) → after (went_of o result) (both cells.new tags.new) m ≡ step map (open_of o) (both cells.old tags.old) m }
+    ensures { (map : List ℕ) (m : Cells) → after (went_of o result) cells.new m ≡ step map (open_of o) cells.old m }
 {
-    let w = unmarked::unpack(o);
+    let w = o.unpack();
     if control::nmi_accepted(w) {
-        return unmarked::settle(control::take_nmi(w, cells, tags), o);
+        let n = control::take_nmi(w, cells);
+        return Ok(Next::Changed(Packed::pack(n)));
     }
     if control::code_accepted(w) {
-        return unmarked::settle(control::take_code(w, cells, tags), o);
+        let n = control::take_code(w, cells);
+        return Ok(Next::Changed(Packed::pack(n)));
     }
-    unmarked::refuse(Answer::Asleep, 0, o)
+    Err(Refusal {
+        answer: Answer::Asleep,
+        place: 0,
+    })
 }

@@ -1,150 +1,58 @@
-// The instruction at PC: its first halfword, the second one if that asks for it, and what they decode to.
-ghost use Rattle.std.specs.Prelude.{◌≡◌, ◌%◌, ◌^◌, ◌<◌, ◌≤◌};
+// The halfwords of the instruction at PC. They choose what is done, so they must not be marked.
+ghost use Rattle.std.specs.Prelude.{◌≡◌, true, cond, Ok, Err, IfOk, ℕ, ◌+◌, ◌%◌, ◌^◌, ◌<◌, ◌≤◌, length};
 ghost use Rattle.word.specs.Extend.{sum24};
-ghost use Rattle.insn.specs.Coding.{reg2_of, opcode_of, reg1_of, decode_fields, decode};
-ghost use Rattle.machine.specs.Marked.{Cells, both};
+ghost use Rattle.insn.specs.declared.Size.TheVariants.{Half};
+ghost use Rattle.machine.specs.declared.Answer.TheVariants.{Leak};
+ghost use Rattle.machine.specs.Marked.{Cells, both, lift_all};
+ghost use Rattle.machine.specs.Memory.{bytes_at, little_endian};
 ghost use Rattle.machine.specs.Regions.{FETCH};
-ghost use Rattle.machine.specs.Step.{completed, execute, fetch, instruction};
+ghost use Rattle.machine.specs.Step.{Outcome, fetch};
 ghost use Rattle.state.specs.Windows.{Onward};
-ghost use Rattle.step.specs.Tasks.{DecodedFields, fetched, Prepared};
+ghost use Rattle.step.specs.Tasks.{fetched, halfword_of, Ready};
 
-use crate::Fetched;
-use insn::{Decoded, decode};
-use machine::{Answer, Open, Spot};
-use state::{MAP, Place, SIZES, memory, regions};
+use crate::unmarked::reveal;
+use machine::{Answer, Open, Refusal};
+use state::map::{Map, Place, Right};
+use state::memory;
 use word::extend;
 
-// A fetch that is refused.
-fn unfetched(answer: Answer, place: u32) -> Fetched
-    ensures { (result.answer ≡ answer) × (result.place ≡ place) × (result.decoded ≡ Decoded.Undefined) }
+// The halfword at p.
+fn halfword(pc: u32, p: usize, mem: &[u8], marks: &[u8]) -> Result<u32, Refusal>
+    requires { (p + 2 ≤ length mem.now) × (length mem.now ≡ length marks.now) }
+    ensures value { result ≡ cond (lift_all little_endian (bytes_at (both mem.now marks.now) p Half)).mark (Err (record { answer = Leak; place = pc })) (Ok (lift_all little_endian (bytes_at (both mem.now marks.now) p Half)).val) }
+    ensures small { IfOk result (λ h. h < 2 ^ 16) }
 {
-    Fetched {
-        answer: answer,
-        place: place,
-        decoded: Decoded::Undefined,
-    }
+    reveal(memory::fetch(mem, marks, p), pc)
 }
 
-// A fetch that is done.
-fn decoded(d: Decoded) -> Fetched
-    ensures { result ≡ record { answer = Answer.Done; place = 0; decoded = d } }
+// The first halfword, and where it lies. That PC is even, which each clause here and in `exec` asks, is a theorem of the definition
+// (`step_well_formed`); in a type each jump would prove it again.
+pub fn first(map: &Map, pc: u32, mem: &[u8], marks: &[u8]) -> Result<(u32, Place), Refusal>
+    requires { Ready map.now mem.now marks.now × (pc % 2 ≡ 0) }
+    ensures value { (o : Open) (c : Cells) (k : ℕ → Outcome) → o.pc ≡ pc → fetched (halfword_of result) c (both mem.now marks.now) k ≡ fetch pc map.now o c (both mem.now marks.now) k }
+    ensures found { IfOk result (λ h. (h.0 < 2 ^ 16) × Onward map.now FETCH pc h.1) }
 {
-    Fetched {
-        answer: Answer::Done,
-        place: 0,
-        decoded: d,
-    }
+    let Some(p) = map.locate(Right::Fetch, pc) else {
+        return Err(Refusal {
+            answer: Answer::NoFetch,
+            place: pc,
+        });
+    };
+    let h = halfword(pc, p.at, mem, marks)?;
+    Ok((h, p))
 }
 
-// The halfword at PC, and what follows from it.
-pub fn fetch(map: &[u32; MAP], sizes: &[u32; SIZES], pc: u32, mem: &[u8], marks: &[u8]) -> Fetched
-    requires { Prepared map.now sizes.now mem.now marks.now × (pc % 2 ≡ 0) }
-    ensures { DecodedFields result.decoded × ((o : Open) (c : Cells) → o.pc ≡ pc → fetched result map.now o c (both mem.now marks.now) ≡ instruction map.now o c (both mem.now marks.now)) }
+// The second one, behind a first one that lies at p.
+pub fn second(map: &Map, pc: u32, p: Place, mem: &[u8], marks: &[u8]) -> Result<u32, Refusal>
+    requires { Ready map.now mem.now marks.now × (pc % 2 ≡ 0) × Onward map.now FETCH pc p }
+    ensures value { (o : Open) (c : Cells) (k : ℕ → Outcome) → o.pc ≡ pc → fetched result c (both mem.now marks.now) k ≡ fetch (sum24 pc 2) map.now o c (both mem.now marks.now) k }
+    ensures small { IfOk result (λ h. h < 2 ^ 16) }
 {
-    let p = regions::locate(map, sizes, regions::TO_FETCH, pc);
-    if !p.found {
-        return unfetched(Answer::NoFetch, pc);
-    }
-    let h = memory::fetch(mem, marks, p.at as usize);
-    if h.mark {
-        return unfetched(Answer::Leak, pc);
-    }
-    complete(h.val, map, sizes, pc, p, mem, marks)
-}
-
-// A second halfword is fetched only if the first, h, which lies at p, asks for it. Each opcode has an arm of its own, here or in
-// `decode::operation`: so the compiler makes one table of them all, and what an arm calls knows its opcode.
-fn complete(
-    h: u32,
-    map: &[u32; MAP],
-    sizes: &[u32; SIZES],
-    pc: u32,
-    p: Place,
-    mem: &[u8],
-    marks: &[u8],
-) -> Fetched
-    requires { (h < 2 ^ 16) × Prepared map.now sizes.now mem.now marks.now × (pc % 2 ≡ 0) × Onward map.now FETCH pc p }
-    ensures { DecodedFields result.decoded × ((o : Open) (c : Cells) → o.pc ≡ pc → fetched result map.now o c (both mem.now marks.now) ≡ completed h map.now o c (both mem.now marks.now)) }
-{
-    let reg2 = decode::reg2_of(h);
-    let opcode = decode::opcode_of(h);
-    let reg1 = decode::reg1_of(h);
-    match opcode {
-        0b011000 => alone(h, reg2, 0b011000, reg1),
-        0b011001 => alone(h, reg2, 0b011001, reg1),
-        0b011010 => alone(h, reg2, 0b011010, reg1),
-        0b011011 => alone(h, reg2, 0b011011, reg1),
-        0b011100 => alone(h, reg2, 0b011100, reg1),
-        0b011101 => alone(h, reg2, 0b011101, reg1),
-        0b011110 => alone(h, reg2, 0b011110, reg1),
-        0b011111 => alone(h, reg2, 0b011111, reg1),
-        0b100000 => alone(h, reg2, 0b100000, reg1),
-        0b100001 => alone(h, reg2, 0b100001, reg1),
-        0b100010 => alone(h, reg2, 0b100010, reg1),
-        0b100011 => alone(h, reg2, 0b100011, reg1),
-        0b100100 => alone(h, reg2, 0b100100, reg1),
-        0b100101 => alone(h, reg2, 0b100101, reg1),
-        0b100110 => alone(h, reg2, 0b100110, reg1),
-        0b100111 => alone(h, reg2, 0b100111, reg1),
-        0b101000 => alone(h, reg2, 0b101000, reg1),
-        0b101001 => alone(h, reg2, 0b101001, reg1),
-        0b101010 => alone(h, reg2, 0b101010, reg1),
-        0b101011 => alone(h, reg2, 0b101011, reg1),
-        0b101100 => alone(h, reg2, 0b101100, reg1),
-        0b101101 => alone(h, reg2, 0b101101, reg1),
-        0b101110 => alone(h, reg2, 0b101110, reg1),
-        0b101111 => alone(h, reg2, 0b101111, reg1),
-        0b110000 => fetch_second(reg2, 0b110000, reg1, map, sizes, pc, p, mem, marks),
-        0b110001 => fetch_second(reg2, 0b110001, reg1, map, sizes, pc, p, mem, marks),
-        0b110010 => fetch_second(reg2, 0b110010, reg1, map, sizes, pc, p, mem, marks),
-        0b110011 => fetch_second(reg2, 0b110011, reg1, map, sizes, pc, p, mem, marks),
-        0b110100 => fetch_second(reg2, 0b110100, reg1, map, sizes, pc, p, mem, marks),
-        0b110101 => fetch_second(reg2, 0b110101, reg1, map, sizes, pc, p, mem, marks),
-        0b110110 => fetch_second(reg2, 0b110110, reg1, map, sizes, pc, p, mem, marks),
-        0b110111 => fetch_second(reg2, 0b110111, reg1, map, sizes, pc, p, mem, marks),
-        0b111000 => fetch_second(reg2, 0b111000, reg1, map, sizes, pc, p, mem, marks),
-        0b111001 => fetch_second(reg2, 0b111001, reg1, map, sizes, pc, p, mem, marks),
-        0b111010 => fetch_second(reg2, 0b111010, reg1, map, sizes, pc, p, mem, marks),
-        0b111011 => fetch_second(reg2, 0b111011, reg1, map, sizes, pc, p, mem, marks),
-        0b111100 => fetch_second(reg2, 0b111100, reg1, map, sizes, pc, p, mem, marks),
-        0b111101 => fetch_second(reg2, 0b111101, reg1, map, sizes, pc, p, mem, marks),
-        0b111110 => fetch_second(reg2, 0b111110, reg1, map, sizes, pc, p, mem, marks),
-        0b111111 => fetch_second(reg2, 0b111111, reg1, map, sizes, pc, p, mem, marks),
-        _ => decoded(decode::operation(reg2, opcode, reg1)),
-    }
-}
-
-// A short form, with its fields.
-fn alone(h: u32, reg2: u32, opcode: u32, reg1: u32) -> Fetched
-    requires { (h < 2 ^ 16) × (reg2 ≡ reg2_of h) × (opcode ≡ opcode_of h) × (reg1 ≡ reg1_of h) × (opcode ≤ 0b101111) }
-    ensures { result ≡ record { answer = Answer.Done; place = 0; decoded = decode h 0 } }
-{
-    decoded(decode::short(h, reg2, opcode, reg1))
-}
-
-// The second halfword, behind a first one that lies at p and has these fields.
-fn fetch_second(
-    reg2: u32,
-    opcode: u32,
-    reg1: u32,
-    map: &[u32; MAP],
-    sizes: &[u32; SIZES],
-    pc: u32,
-    p: Place,
-    mem: &[u8],
-    marks: &[u8],
-) -> Fetched
-    requires { (reg2 < 32) × (0b110000 ≤ opcode) × (opcode < 64) × (reg1 < 32) × Prepared map.now sizes.now mem.now marks.now × (pc % 2 ≡ 0) × Onward map.now FETCH pc p }
-    ensures { DecodedFields result.decoded × ((o : Open) (c : Cells) → o.pc ≡ pc → fetched result map.now o c (both mem.now marks.now) ≡ fetch (sum24 pc 2) map.now o c (both mem.now marks.now) (λ w. execute (decode_fields reg2 opcode reg1 w) map.now o c (both mem.now marks.now))) }
-{
-    match regions::second(map, sizes, p, pc) {
-        Spot::At(q) => {
-            let h = memory::fetch(mem, marks, q);
-            if h.mark {
-                return unfetched(Answer::Leak, pc);
-            }
-            decoded(decode::long(reg2, opcode, reg1, h.val))
-        }
-        Spot::Nowhere => unfetched(Answer::NoFetch, extend::sum24(pc, 2)),
-    }
+    let Some(q) = map.second(p, pc) else {
+        return Err(Refusal {
+            answer: Answer::NoFetch,
+            place: extend::sum24(pc, 2),
+        });
+    };
+    halfword(pc, q, mem, marks)
 }

@@ -1,33 +1,37 @@
 // A run: steps until the budget is used up or a step is refused.
-ghost use Rattle.std.specs.Prelude.{◌≡◌, ◌-◌, ◌<◌, ◌≤◌, true, false};
+ghost use Rattle.std.specs.Prelude.{◌≡◌, IfNone, ◌-◌, ◌<◌, ◌≤◌, true, false};
 ghost use Rattle.machine.specs.Marked.{both};
 ghost use Rattle.machine.specs.Run.{run};
 ghost use Rattle.machine.specs.WellFormed.{WellFormed, Bytes};
-ghost use Rattle.step.specs.Tasks.{open_of, acts, goes_on, goes_from, Ready, Prepared};
+ghost use Rattle.step.specs.Tasks.{open_of, acts, goes_from, ran_to, Ready};
 
-use crate::{Packed, Reached, exec, unmarked};
-use machine::{Answer, Open, Ran};
-use state::{CELLS, MAP, SIZES, regions};
+use crate::exec;
+use crate::unmarked::Packed;
+use machine::{Answer, Open, Ran, Refusal};
+use state::cells::Cells;
+use state::map::Map;
 
-fn reached(answer: Answer, place: u32, steps: u32, o: Packed) -> Reached
-    ensures { result ≡ record { answer = answer; place = place; steps = steps; core = o } }
-{
-    Reached {
-        answer: answer,
-        place: place,
-        steps: steps,
-        core: o,
-    }
+// How far a run has come after so many steps, and the refusal that ends it there, if there is one.
+#[derive(Clone, Copy)]
+pub struct Reached {
+    pub stop: Option<Refusal>,
+    pub steps: u32,
+    pub core: Packed,
 }
 
-fn ended(answer: Answer, place: u32, steps: u32, o: Packed) -> Ran
-    ensures { result ≡ record { answer = answer; place = place; steps = steps; core = open_of o } }
+// The end of a run that has come this far and goes no further.
+fn ended(r: Reached) -> Ran
+    ensures { result ≡ ran_to r }
 {
+    let (answer, place) = match r.stop {
+        Some(s) => (s.answer, s.place),
+        None => (Answer::Done, 0),
+    };
     Ran {
-        answer: answer,
-        place: place,
-        steps: steps,
-        core: unmarked::unpack(o),
+        answer,
+        place,
+        steps: r.steps,
+        core: r.core.unpack(),
     }
 }
 
@@ -36,74 +40,81 @@ fn ended(answer: Answer, place: u32, steps: u32, o: Packed) -> Ran
 fn instructions(
     budget: u32,
     from: u32,
-    map: &[u32; MAP],
-    sizes: &[u32; SIZES],
+    map: &Map,
     start: Packed,
-    cells: &mut [u32; CELLS],
-    tags: &mut [u8; CELLS],
+    cells: &mut Cells,
     mem: &mut [u8],
     marks: &mut [u8],
 ) -> Reached
-    requires { (from < budget) × Prepared map.now sizes.now mem.old marks.old × WellFormed (open_of start) (both cells.old tags.old) × (acts (open_of start) ≡ false) }
-    ensures { (goes_from budget map.now result (both cells.new tags.new) (both mem.new marks.new) ≡ run (budget - from) from map.now (open_of start) (both cells.old tags.old) (both mem.old marks.old)) × (goes_on result.answer ≡ true → (from < result.steps) × (result.steps ≤ budget) × WellFormed (open_of result.core) (both cells.new tags.new) × Bytes (both mem.new marks.new)) }
+    requires { (from < budget) × Ready map.now mem.old marks.old × WellFormed (open_of start) cells.old × (acts (open_of start) ≡ false) }
+    ensures { (goes_from budget map.now result cells.new (both mem.new marks.new) ≡ run (budget - from) from map.now (open_of start) cells.old (both mem.old marks.old)) × (IfNone result.stop ((from < result.steps) × (result.steps ≤ budget) × WellFormed (open_of result.core) cells.new × Bytes (both mem.new marks.new))) }
 {
+    // n counts steps, and a refused one does not count: no index of a loop
     let mut o = start;
     let mut n = from;
     let mut calm = true;
     while calm {
         if n == budget {
-            return reached(Answer::Done, 0, n, o);
+            break;
         }
-        let w = exec::instruction(map, sizes, o, cells, tags, mem, marks);
-        let answer = w.answer;
-        match answer {
-            Answer::Done => {
-                calm = w.calm;
-                o = unmarked::after(o, w);
+        match exec::instruction(map, o, cells, mem, marks) {
+            Ok(next) => {
+                calm = next.is_calm();
+                o = o.after(next);
                 n += 1;
             }
-            _ => return reached(answer, w.place, n, o),
+            Err(stop) => {
+                return Reached {
+                    stop: Some(stop),
+                    steps: n,
+                    core: o,
+                };
+            }
         }
     }
-    reached(Answer::Done, 0, n, o)
+    Reached {
+        stop: None,
+        steps: n,
+        core: o,
+    }
 }
 
+// The state is well-formed, and stays so: that is a theorem of the definition too (`run_well_formed`), and the clauses only pass it on. The
+// loop has no index either: `instructions` takes many steps at once.
 pub fn run(
     budget: u32,
-    map: &[u32; MAP],
+    map: &Map,
     start: Open,
-    cells: &mut [u32; CELLS],
-    tags: &mut [u8; CELLS],
+    cells: &mut Cells,
     mem: &mut [u8],
     marks: &mut [u8],
 ) -> Ran
-    requires { Ready map.now mem.old marks.old × WellFormed start (both cells.old tags.old) }
-    ensures { record { ran = result; cells = both cells.new tags.new; mem = both mem.new marks.new } ≡ run budget 0 map.now start (both cells.old tags.old) (both mem.old marks.old) }
+    requires { Ready map.now mem.old marks.old × WellFormed start cells.old }
+    ensures { record { ran = result; cells = cells.new; mem = both mem.new marks.new } ≡ run budget 0 map.now start cells.old (both mem.old marks.old) }
 {
-    let sizes = regions::sizes(map);
-    let mut o = unmarked::pack(start);
-    let mut n: u32 = 0;
-    while n < budget {
-        if exec::acts(o) {
-            let w = exec::attend(o, cells, tags);
-            let answer = w.answer;
-            match answer {
-                Answer::Done => {
-                    o = unmarked::after(o, w);
-                    n += 1;
+    let mut r = Reached {
+        stop: None,
+        steps: 0,
+        core: Packed::pack(start),
+    };
+    while r.steps < budget {
+        if exec::acts(r.core) {
+            match exec::attend(r.core, cells) {
+                Ok(next) => {
+                    r.core = r.core.after(next);
+                    r.steps += 1;
                 }
-                _ => return ended(answer, w.place, n, o),
+                Err(stop) => {
+                    r.stop = Some(stop);
+                    return ended(r);
+                }
             }
         } else {
-            let r = instructions(budget, n, map, &sizes, o, cells, tags, mem, marks);
-            o = r.core;
-            n = r.steps;
-            let answer = r.answer;
-            match answer {
-                Answer::Done => {}
-                _ => return ended(answer, r.place, n, o),
+            r = instructions(budget, r.steps, map, r.core, cells, mem, marks);
+            if r.stop.is_some() {
+                return ended(r);
             }
         }
     }
-    ended(Answer::Done, 0, n, o)
+    ended(r)
 }

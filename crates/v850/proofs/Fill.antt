@@ -1,58 +1,64 @@
--- Loops that fill an array: the first elements are those of a list that grows by one at its end.
-use mathlib.Core.Path.{◌≡◌, refl, sym, ap, ◌∙◌, subst}
-use mathlib.Core.List.{List, [], ◌∷◌, ◌++◌, append_assoc, append-nil}
-use Prim.Native.Nat.{ℕ, zero, suc, ◌+◌, ◌-◌, ◌*◌, ◌/◌, ◌%◌, ◌^◌, ◌≤◌, ◌<◌}
-use native.Mathlib.Omega.{arith}
-use native.Mathlib.Numerals.{add-one}
-use lib.ListN.{length, get_or, take, drop, set, length-set, length-drop, length-append, drop_of_length-le}
-use lib.Seq.{length-take-le, take_all, take_at, drop_at, drop-drop, take-suc, take-suc-set, get_or-drop, sets, length-sets, sets-eq}
+-- Lists as the code makes them: by a function of the place, by stores one after the other, and by a fold.
+use Rattle.std.specs.Prelude.{◌≡◌, refl, List, [], ◌∷◌, ◌++◌, ℕ, zero, suc, ◌+◌, ◌*◌, ◌/◌, ◌%◌, ◌^◌, ◌≤◌, ◌<◌, bit_or, length, get_or, take, drop, set, reverse}
+use Rattle.std.proofs.Common.{sym, ap, ◌∙◌, subst, arith, add-one, append_assoc, append-nil, drop_of_length-le, length-append, length-take-le, take_all, take_at, drop_at, ext_get_or}
+use Rattle.std.proofs.Math.ListN.{length-set}
+use Rattle.std.proofs.Math.Seq.{drop-drop, sets, length-sets, sets-eq}
+use Rattle.std.proofs.lemmas.List.{reverse-append}
+use Rattle.std.proofs.lemmas.List.Sums.{fold_push}
+use Rattle.std.proofs.lemmas.Nat.{or_shifted, shl_whole}
+use Rattle.std.specs.Array.{IsFromFnResultFrom}
+use Rattle.std.specs.Fn.{Called}
+use Rattle.std.specs.List.{fold}
+use denote.Param.Members.{Mut}
+use borrow.Rule.Slice.PartMut.{put_mid}
 use Rattle.machine.specs.Psw.{REGS, sys, EIPC, EIPSW, FEPC, FEPSW, ECR, PSW, CELLS}
 use Rattle.v850.specs.Block.{WORDS, at_pc, at_psw, at_eipc, at_eipsw, at_fepc, at_fepsw, at_ecr, at_code, at_waits, at_reg_marks, at_sys_marks, at_map, MAP_WORDS, bytes_of_word, bytes_of, REPORT, report_of, word_at, words_from, bits_from, pack_bits}
-use Rattle.v850.specs.PackLaws.{bytes-more, bytes-length}
-use Rattle.v850.specs.BlockLaws.{Marks, pack-more, pack-word}
+use Rattle.v850.specs.PackLaws.{Below, tail, pack_lt, bytes-more, bytes-length, bits-length, bits_at}
 
--- i of n elements are written; the array l has room for size
-pub record Filled (f : ℕ → List ℕ) (size n i : ℕ) (l : List ℕ) : Type 0 where
-  pub below : i ≤ n
-  pub long : length l ≡ size
-  pub first : take i l ≡ f i
-
-pub filled_none : (f : ℕ → List ℕ) (size n : ℕ) (l : List ℕ) → length l ≡ size → f 0 ≡ [] → Filled f size n 0 l
-filled_none f size n l h e = record { below = omega arith; long = h; first = sym e }
-
-pub filled_next : (f : ℕ → List ℕ) (size n i v w : ℕ) (l : List ℕ) → n ≤ size → i < n → f (suc i) ≡ f i ++ (w ∷ []) → v ≡ w
-    → Filled f size n i l → Filled f size n (i + 1) (set l i v)
-filled_next f size n i v w l le lt e p h =
-    record {
-      below = omega arith;
-      long = length-set l i v ∙ h.long;
-      first =
-          ap (λ (k : ℕ). take k (set l i v)) (add-one i) ∙ take-suc-set l i v (omega (arith, h.long))
-          ∙ ap (λ (s : List ℕ). s ++ (v ∷ [])) h.first ∙ ap (λ (x : ℕ). f i ++ (x ∷ [])) p ∙ sym e ∙ ap f (sym (add-one i));
-    }
-
-pub filled_part : (f : ℕ → List ℕ) (size n i : ℕ) (l : List ℕ) → n ≤ i → Filled f size n i l → take n l ≡ f n
-filled_part f size n i l le h = let e : i ≡ n = omega (arith, h.below) in rw e at h.first
-
-pub filled-all : (f : ℕ → List ℕ) (n i : ℕ) (l : List ℕ) → n ≤ i → Filled f n n i l → l ≡ f n
-filled-all f n i l le h = sym (take_all n l (omega (arith, h.long))) ∙ filled_part f n n i l le h
-
--- the lists that grow
-pub words_more : (b : List ℕ) (j n : ℕ) → words_from b j (suc n) ≡ words_from b j n ++ (word_at b (j + n) ∷ [])
+-- the words of a block, and the bits of a word, by their places
+pub words_at : (b : List ℕ) (n k : ℕ) → k < n → get_or (words_from b 0 n) k 0 ≡ word_at b k
 unfolding words_from
-words_more b j zero = ap (λ (k : ℕ). word_at b k ∷ []) (omega arith)
-words_more b j (suc n) = ap (λ (s : List ℕ). word_at b j ∷ s) (words_more b (suc j) n ∙ ap (λ (k : ℕ). words_from b (suc j) n ++ (word_at b k ∷ [])) (omega arith))
+words_at b n k h = from 0 n k h ∙ ap (word_at b) {x = 0 + k} {y = k} (omega arith)
+  where
+    from : (j n k : ℕ) → k < n → get_or (words_from b j n) k 0 ≡ word_at b (j + k)
+    from j zero k h = absurd (omega arith)
+    from j (suc n) zero h = ap (word_at b) {x = j} {y = j + 0} (omega arith)
+    from j (suc n) (suc k) h = from (suc j) n k (omega arith) ∙ ap (word_at b) {x = suc j + k} {y = j + suc k} (omega arith)
 
-pub bits-more : (w j n : ℕ) → bits_from w j (suc n) ≡ bits_from w j n ++ (w / 2 ^ (j + n) % 2 ∷ [])
-unfolding bits_from
-bits-more w j zero = ap (λ (k : ℕ). w / 2 ^ k % 2 ∷ []) (omega arith)
-bits-more w j (suc n) = ap (λ (s : List ℕ). w / 2 ^ j % 2 ∷ s) (bits-more w (suc j) n ∙ ap (λ (k : ℕ). bits_from w (suc j) n ++ (w / 2 ^ k % 2 ∷ [])) (omega arith))
+pub bits_there : (w : ℕ) (l : List ℕ) → length l ≡ REGS → ((k : ℕ) → k < REGS → get_or l k 0 ≡ w / 2 ^ k % 2) → l ≡ bits_from w 0 REGS
+bits_there w l h f =
+    ext_get_or 0 l (bits_from w 0 REGS) (h ∙ sym (bits-length w 0 REGS)) λ k m.
+    f k (omega arith) ∙ ap (λ (j : ℕ). w / 2 ^ j % 2) {x = k} {y = 0 + k} (omega arith) ∙ sym (bits_at w 0 REGS k (omega arith))
 
-pub take_more : (l : List ℕ) (i : ℕ) → i < length l → take (suc i) l ≡ take i l ++ (get_or l i 0 ∷ [])
-take_more l i h = take-suc l i 0 h
+-- what `array::from_fn` makes of a closure that computes h, and stays as it is
+pub made : {F : Type 0} (g : Mut F (ℕ × Unit {0}) ℕ) (f : F) (h : ℕ → ℕ) (ys : List ℕ) (n : ℕ)
+    → ((x r : ℕ) (q : F) → Called g f (x, tt) r q → (q ≡ f) × (r ≡ h x))
+    → IsFromFnResultFrom g f ys 0 n → (k : ℕ) → k < n → get_or ys k 0 ≡ h k
+made {F} g f h ys n steps r k l = subst (λ (j : ℕ). get_or ys j 0 ≡ h j) {x = 0 + k} {y = k} (omega arith) (from 0 n r k l)
+  where
+    from : (i n : ℕ) → IsFromFnResultFrom g f ys i n → (k : ℕ) → k < n → get_or ys (i + k) 0 ≡ h (i + k)
+    from i zero r k l = absurd (omega arith)
+    from i (suc n) (q, y, at, called, rest) zero l =
+        ap (λ (j : ℕ). get_or ys j 0) {x = i + 0} {y = i} (omega arith) ∙ at.1 0 ∙ (steps i y q called).1 ∙ ap h {x = i} {y = i + 0} (omega arith)
+    from i (suc n) (q, y, at, called, rest) (suc k) l =
+        subst (λ (j : ℕ). get_or ys j 0 ≡ h j) {x = i + 1 + k} {y = i + suc k} (omega arith)
+        (from (i + 1) n (subst (λ (p : F). IsFromFnResultFrom g p ys (i + 1) n) (steps i y q called).0 rest) k (omega arith))
 
-pub drop_more : (l : List ℕ) (k i : ℕ) → k + i < length l → take (suc i) (drop k l) ≡ take i (drop k l) ++ (get_or l (k + i) 0 ∷ [])
-drop_more l k i h = take-suc (drop k l) i 0 (omega (arith, length-drop k l)) ∙ ap (λ (x : ℕ). take i (drop k l) ++ (x ∷ [])) (get_or-drop k l i 0)
+-- bits gathered from the last one down
+abbrev pub gathered : List ℕ → ℕ
+gathered l = fold (λ (w b : ℕ). bit_or (w * 2 % 2 ^ 32) b) 0 (reverse l)
+
+gather : (w b n : ℕ) → w < 2 ^ n → n + 1 ≤ 32 → b < 2 → bit_or (w * 2 % 2 ^ 32) b ≡ b + 2 * w
+gather w b n h l k = ap (λ (x : ℕ). bit_or x b) (shl_whole w n 1 32 h l) ∙ or_shifted w 1 b k ∙ omega arith
+
+pub gathered-bits : (l : List ℕ) → Below 2 l → length l ≤ 32 → gathered l ≡ pack_bits l
+unfolding pack_bits
+gathered-bits [] h k = refl
+gathered-bits (b ∷ bs) h k =
+    ap (fold (λ (w b : ℕ). bit_or (w * 2 % 2 ^ 32) b) 0) (reverse-append (b ∷ []) bs)
+    ∙ fold_push (λ (w b : ℕ). bit_or (w * 2 % 2 ^ 32) b) 0 (reverse bs) b
+    ∙ ap (λ (w : ℕ). bit_or (w * 2 % 2 ^ 32) b) (gathered-bits bs (tail h) (omega arith))
+    ∙ gather (pack_bits bs) b (length bs) (pack_lt bs (tail h)) (omega arith) (h.at 0)
 
 -- elements stored one by one at the end of an array, and before its end
 pub stored_part : (vs l : List ℕ) (i n : ℕ) → i + length vs ≤ length l → i + length vs ≡ n → take n (sets l i vs) ≡ take i l ++ vs
@@ -68,15 +74,6 @@ pub six_stored : (l s : List ℕ) (a b d e f g : ℕ) → length l ≡ CELLS →
     → set (set (set (set (set (set l (sys EIPC) a) (sys EIPSW) b) (sys FEPC) d) (sys FEPSW) e) (sys ECR) f) (sys PSW) g ≡ s ++ (a ∷ b ∷ d ∷ e ∷ f ∷ g ∷ [])
 six_stored l s a b d e f g h p =
     stored_all (a ∷ b ∷ d ∷ e ∷ f ∷ g ∷ []) l REGS (sym h) ∙ ap (λ (r : List ℕ). r ++ (a ∷ b ∷ d ∷ e ∷ f ∷ g ∷ [])) p
-
--- the four bytes of a word
-pub four_stored : (l : List ℕ) (k a b d e : ℕ) → k + 3 < length l
-    → set (set (set (set l k a) (k + 1) b) (k + 2) d) (k + 3) e ≡ take k l ++ ((a ∷ b ∷ d ∷ e ∷ []) ++ drop (k + 4) l)
-four_stored l k a b d e h =
-    let e1 : k + 1 ≡ suc k = omega arith in
-    let e2 : k + 2 ≡ suc (suc k) = omega arith in
-    let e3 : k + 3 ≡ suc (suc (suc k)) = omega arith in
-    rw (e1, e2, e3) (sets-eq (a ∷ b ∷ d ∷ e ∷ []) l k (omega arith) ∙ append_assoc (take k l) (a ∷ b ∷ d ∷ e ∷ []) (drop (k + 4) l))
 
 -- a turn of the loop that writes the words of a block
 pub bytes_turn : (ws b₀ b b' : List ℕ) (i : ℕ) → i < length ws → b ≡ bytes_of (take i ws) ++ drop (4 * i) b₀
@@ -107,59 +104,27 @@ two-words b b' b'' x y h p q =
     q ∙ ap (λ (s : List ℕ). take 4 s ++ (bytes_of_word y ++ drop 8 s)) p
     ∙ ap (λ (s : List ℕ). bytes_of_word x ++ (bytes_of_word y ++ s)) (drop-drop 4 4 b ∙ drop_of_length-le b {i = 8} (omega arith))
 
--- a turn of the loop that gathers the registers' marks, from the last one down
-pub marks_turn : (m : List ℕ) (i b r : ℕ) → Marks m → 0 < i → i ≤ REGS → b ≡ get_or m (i - 1) 0 → r ≡ pack_bits (drop i (take REGS m))
-    → (b + 2 * r ≡ pack_bits (drop (i - 1) (take REGS m))) × (b + 2 * r < 2 ^ 32)
-marks_turn m i b r h z l p q =
-    let e : suc (i - 1) ≡ i = omega arith in
-    let g : b + 2 * r ≡ pack_bits (drop (i - 1) (take REGS m)) =
-    ap (λ (x : ℕ). x + 2 * r) p ∙ ap (λ (x : ℕ). get_or m (i - 1) 0 + 2 * x) (q ∙ ap (λ (k : ℕ). pack_bits (drop k (take REGS m))) (sym e))
-    ∙ pack-more m (i - 1) h (omega arith) in
-    (g, subst (λ (x : ℕ). x < 2 ^ 32) (sym g) (pack-word m (i - 1) h))
+-- numbers stored at the end of the words
+at_end_stored : (l map : List ℕ) → length l ≡ WORDS → put_mid at_map MAP_WORDS l map ≡ take at_map l ++ map
+at_end_stored l map h =
+    ap (λ (s : List ℕ). take at_map l ++ (map ++ s)) (drop-drop MAP_WORDS at_map l ∙ drop_of_length-le l {i = at_map + MAP_WORDS} (omega arith))
+    ∙ ap (λ (s : List ℕ). take at_map l ++ s) (append-nil map)
 
--- the eleven words between the registers and the map: PSW and the words of marks are computed
-pub eleven_stored : (l s map : List ℕ) (pc psw psw' eipc eipsw fepc fepsw ecr code waits regs regs' marks marks' : ℕ)
-    → length l ≡ WORDS → take REGS l ≡ s → psw ≡ psw' → regs ≡ regs' → marks ≡ marks'
-    → take at_map
+-- the eleven words between the registers and the map, and the map: PSW and the words of marks are computed
+pub eleven_stored : (l s map map' : List ℕ) (pc psw psw' eipc eipsw fepc fepsw ecr code waits regs regs' marks marks' : ℕ)
+    → length l ≡ WORDS → take REGS l ≡ s → map ≡ map' → psw ≡ psw' → regs ≡ regs' → marks ≡ marks'
+    → put_mid at_map MAP_WORDS
     (set (set (set (set (set (set (set (set (set (set (set l at_pc pc) at_psw psw) at_eipc eipc) at_eipsw eipsw) at_fepc fepc) at_fepsw fepsw) at_ecr ecr) at_code code) at_waits waits) at_reg_marks regs) at_sys_marks marks)
-    ++ map
-    ≡ s ++ (pc ∷ psw' ∷ eipc ∷ eipsw ∷ fepc ∷ fepsw ∷ ecr ∷ code ∷ waits ∷ regs' ∷ marks' ∷ map)
-eleven_stored l s map pc psw psw' eipc eipsw fepc fepsw ecr code waits regs regs' marks marks' h p e f g =
-    rw (
+    map
+    ≡ s ++ (pc ∷ psw' ∷ eipc ∷ eipsw ∷ fepc ∷ fepsw ∷ ecr ∷ code ∷ waits ∷ regs' ∷ marks' ∷ map')
+eleven_stored l s map map' pc psw psw' eipc eipsw fepc fepsw ecr code waits regs regs' marks marks' h p m e f g =
+    let at_end = at_end_stored _ map (simp length-set h) in
+    at_end ∙ rw (
       e,
       f,
       g,
+      m,
       stored_part (pc ∷ psw' ∷ eipc ∷ eipsw ∷ fepc ∷ fepsw ∷ ecr ∷ code ∷ waits ∷ regs' ∷ marks' ∷ []) l REGS at_map (omega arith) refl,
       p,
     )
-    (append_assoc s (pc ∷ psw' ∷ eipc ∷ eipsw ∷ fepc ∷ fepsw ∷ ecr ∷ code ∷ waits ∷ regs' ∷ marks' ∷ []) map)
-
--- the words up to the map, and k words of the map
-abbrev with_map : List ℕ → List ℕ → ℕ → List ℕ
-with_map l map n = take at_map l ++ take (n - at_map) map
-
-pub record Mapped (l₀ map : List ℕ) (k : ℕ) (l : List ℕ) : Type 0 where
-  pub below : k ≤ MAP_WORDS
-  pub filled : Filled (with_map l₀ map) WORDS WORDS (at_map + k) l
-
-pub mapped_none : (l map : List ℕ) → length l ≡ WORDS → Mapped l map 0 l
-mapped_none l map h =
-    record { below = omega arith; filled = record { below = omega arith; long = h; first = sym (append-nil (take at_map l)) } }
-
-pub mapped_next : {l₀ l : List ℕ} (map : List ℕ) (k : ℕ) → k < MAP_WORDS → length map ≡ MAP_WORDS → Mapped l₀ map k l → Mapped l₀ map (k + 1) (set l (at_map + k) (get_or map k 0))
-mapped_next {l₀} {l} map k h n p = record { below = omega arith; filled = next }
-  where
-    more : with_map l₀ map (suc (at_map + k)) ≡ with_map l₀ map (at_map + k) ++ (get_or map k 0 ∷ [])
-    more =
-        let a : suc (at_map + k) - at_map ≡ suc k = omega arith in
-        let b : at_map + k - at_map ≡ k = omega arith in
-        rw (a, b, take_more map k (omega arith)) (sym (append_assoc (take at_map l₀) (take k map) (get_or map k 0 ∷ [])))
-
-    next : Filled (with_map l₀ map) WORDS WORDS (at_map + (k + 1)) (set l (at_map + k) (get_or map k 0))
-    next =
-        subst (λ (j : ℕ). Filled (with_map l₀ map) WORDS WORDS j (set l (at_map + k) (get_or map k 0))) {x = at_map + k + 1} {y = at_map + (k + 1)} (omega arith)
-        (filled_next (with_map l₀ map) WORDS WORDS (at_map + k) _ _ l (omega arith) (omega arith) more refl p.filled)
-
-pub mapped_all : {l₀ l : List ℕ} (map : List ℕ) (k : ℕ) → MAP_WORDS ≤ k → length map ≡ MAP_WORDS → Mapped l₀ map k l → l ≡ take at_map l₀ ++ map
-mapped_all {l₀} {l} map k h n p =
-    filled-all (with_map l₀ map) WORDS (at_map + k) l (omega arith) p.filled ∙ ap (λ (s : List ℕ). take at_map l₀ ++ s) (take_all MAP_WORDS map (omega arith))
+    (append_assoc s (pc ∷ psw' ∷ eipc ∷ eipsw ∷ fepc ∷ fepsw ∷ ecr ∷ code ∷ waits ∷ regs' ∷ marks' ∷ []) map')

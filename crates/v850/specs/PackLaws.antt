@@ -15,7 +15,7 @@ below-cons {n} {a} {l} h k = record { at = go }
     go zero = h
     go (suc i) = k.at i
 
-tail : {n a : ℕ} {l : List ℕ} → Below n (a ∷ l) → Below n l
+pub tail : {n a : ℕ} {l : List ℕ} → Below n (a ∷ l) → Below n l
 tail h = record { at = λ i. h.at (suc i) }
 
 pub below-append : {n : ℕ} (s t : List ℕ) → Below n s → Below n t → Below n (s ++ t)
@@ -122,6 +122,12 @@ pub bits-length : (w i n : ℕ) → length (bits_from w i n) ≡ n
 unfolding bits_from
 bits-length w i zero = refl
 bits-length w i (suc n) = ap suc (bits-length w (suc i) n)
+
+pub bits_at : (x i n k : ℕ) → k < n → get_or (bits_from x i n) k 0 ≡ x / 2 ^ (i + k) % 2
+unfolding bits_from
+bits_at x i zero k h = absurd (omega arith)
+bits_at x i (suc n) zero h = ap (λ (j : ℕ). x / 2 ^ j % 2) {x = i} {y = i + 0} (omega arith)
+bits_at x i (suc n) (suc k) h = bits_at x (suc i) n k (omega arith) ∙ ap (λ (j : ℕ). x / 2 ^ j % 2) {x = suc i + k} {y = i + suc k} (omega arith)
 
 pub bits_below : (w j n : ℕ) → Below 2 (bits_from w j n)
 unfolding bits_from

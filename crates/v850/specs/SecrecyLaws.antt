@@ -14,7 +14,7 @@ use Rattle.machine.specs.WellFormed.{WellFormed}
 use Rattle.machine.specs.Alike.{bit_cells, Alike}
 use Rattle.machine.specs.AlikeLaws.{register}
 use Rattle.v850.specs.Block.{WORDS, MAP_WORDS, at_psw, at_eipc, at_eipsw, at_fepc, at_fepsw, at_waits, at_reg_marks, at_sys_marks, at_map, byte, bits_from, pack_bits, map_in, core_in, nums_in, marks_in, cells_in, words_of, good_state}
-use Rattle.v850.specs.PackLaws.{Below, bits-length}
+use Rattle.v850.specs.PackLaws.{Below, bits-length, bits_at}
 use Rattle.v850.specs.PlaceLaws.{before, after, everywhere}
 use Rattle.v850.specs.BlockLaws.{map-long, sys_marks, passed, formed-words, formed-good-state, good-state-formed, together-apart}
 use Rattle.v850.specs.AlikeStarts.{AlikeWords}
@@ -52,12 +52,6 @@ high_bit n k x h l = ap (λ (y : ℕ). eqb (y % 2) 1) (div-eq_of_lt (lt_of_lt_of
 
 low_bit : (n k x : ℕ) → k < n → bit k (x % 2 ^ n) ≡ bit k x
 low_bit n k x h = subst (λ (j : ℕ). bit k (x % 2 ^ j) ≡ bit k x) {x = n - 1 - k + 1 + k} {y = n} (omega arith) (bit_low (n - 1 - k) k x)
-
-bits_at : (x i n k : ℕ) → k < n → get_or (bits_from x i n) k 0 ≡ x / 2 ^ (i + k) % 2
-unfolding bits_from
-bits_at x i zero k h = absurd (omega arith)
-bits_at x i (suc n) zero h = ap (λ (j : ℕ). x / 2 ^ j % 2) {x = i} {y = i + 0} (omega arith)
-bits_at x i (suc n) (suc k) h = bits_at x (suc i) n k (omega arith) ∙ ap (λ (j : ℕ). x / 2 ^ j % 2) {x = suc i + k} {y = i + suc k} (omega arith)
 
 reg-mark : (x i : ℕ) → i < REGS → marked (get_or (bits_from x 0 REGS) i 0) ≡ bit i x
 reg-mark x i h =

@@ -1,19 +1,19 @@
 // What a host calls. Each entry tests its own arguments, and needs nothing of its caller.
-ghost use Rattle.std.specs.Prelude.{◌≡◌};
+ghost use Rattle.std.specs.Prelude.{◌≡◌, false, MatchOption};
 ghost use Rattle.machine.specs.Run.{number};
-ghost use Rattle.v850.specs.Entry.{called, reset, view};
-ghost use Rattle.v850.specs.Handed.{view_from, on_by};
+ghost use Rattle.v850.specs.CallLaws.{checked};
+ghost use Rattle.v850.specs.Entry.{good_sizes, called, reset, handed, view};
+ghost use Rattle.v850.specs.Handed.{view_from, IsPart, on_by};
 
-use crate::block;
-use crate::block::{BYTES, REPORT};
+use crate::block::{self, BYTES, REPORT, Words};
 use machine::Answer;
-use state::{map_check, regions};
+use state::map::Map;
 use step::run;
 
 // The largest memory.
 const MEMORY: usize = 65536;
 
-// The answers by number.
+// The answers by number, which is how C and the bench read them (`include/v850.h`); inside, an answer is an `Answer`.
 pub const DONE: u32 = 0;
 
 pub const SIZE: u32 = 1;
@@ -34,25 +34,34 @@ pub const NO_READ: u32 = 8;
 
 pub const NO_WRITE: u32 = 9;
 
-fn number(a: Answer) -> u32
-    ensures { result ≡ number a }
+// SIZE: which sizes are right.
+fn good_sizes(block: &[u8], memory: &[u8], marks: &[u8], report: &[u8]) -> bool
+    ensures { result ≡ good_sizes block.now memory.now marks.now report.now }
 {
-    match a {
-        Answer::Done => DONE,
-        Answer::Size => SIZE,
-        Answer::Map => MAP,
-        Answer::State => STATE,
-        Answer::Asleep => ASLEEP,
-        Answer::NoFetch => NO_FETCH,
-        Answer::Undefined => UNDEFINED,
-        Answer::Leak => LEAK,
-        Answer::NoRead => NO_READ,
-        Answer::NoWrite => NO_WRITE,
-    }
+    block.len() == BYTES
+        && report.len() == REPORT
+        && memory.len() <= MEMORY
+        && marks.len() == memory.len()
 }
 
-// The run: the checks SIZE, MAP and STATE in this order, then steps until the budget is used up or one is refused. The block is
-// taken apart once and put together once, and nothing here walks the memory or the marks.
+// SIZE, MAP and STATE, in this order: the words of a block that passes them all, or the refusal.
+#[tactic(auto, unfolding(crate::specs::CallLaws::checked))]
+fn checked(block: &[u8], memory: &[u8], marks: &[u8], report: &[u8]) -> Result<(Words, Map), Answer>
+    ensures { result ≡ checked block.now memory.now marks.now report.now }
+{
+    if !good_sizes(block, memory, marks, report) {
+        return Err(Answer::Size);
+    }
+    let words = Words::read(block);
+    let map = Map::new(words.map(), memory.len()).ok_or(Answer::Map)?;
+    if !words.good_state() {
+        return Err(Answer::State);
+    }
+    Ok((words, map))
+}
+
+// The run: the checks, then steps until the budget is used up or one is refused. The block is taken apart once and put together once,
+// and nothing here walks the memory or the marks.
 pub fn v850_run(
     block: &mut [u8],
     memory: &mut [u8],
@@ -62,37 +71,21 @@ pub fn v850_run(
 ) -> u32
     ensures { record { answer = result; block = block.new; memory = memory.new; marks = marks.new; report = report.new } ≡ called block.old memory.old marks.old report.old budget }
 {
-    if block.len() != BYTES {
-        return SIZE;
+    match checked(block, memory, marks, report) {
+        Ok((words, map)) => {
+            let mut cells = words.cells();
+            let e = run::run(budget, &map, words.core(), &mut cells, memory, marks);
+            let left = Words::of(e.core, &cells, &map);
+            left.write(block);
+            block::put_report(report, e.steps, e.place);
+            u32::from(e.answer)
+        }
+        Err(Answer::Size) => SIZE,
+        Err(refusal) => {
+            report.fill(0);
+            u32::from(refusal)
+        }
     }
-    if report.len() != REPORT {
-        return SIZE;
-    }
-    if memory.len() > MEMORY {
-        return SIZE;
-    }
-    if marks.len() != memory.len() {
-        return SIZE;
-    }
-    let ws = block::words(&*block);
-    let map = block::map_in(&ws);
-    if !map_check::good_map(&map, memory.len()) {
-        block::clear_report(report);
-        return MAP;
-    }
-    if !block::good_state(&ws) {
-        block::clear_report(report);
-        return STATE;
-    }
-    let core = block::core_in(&ws);
-    let mut cells = block::nums_in(&ws);
-    let mut tags = block::marks_in(&ws);
-    let e = run::run(budget, &map, core, &mut cells, &mut tags, memory, marks);
-    let left = block::words_of(e.core, &cells, &tags, &map);
-    block::put_words(block, &left);
-    block::put_report(report, e.steps, e.place);
-    let answer = e.answer;
-    number(answer)
 }
 
 // Reset: the map stays.
@@ -102,33 +95,28 @@ pub fn v850_reset(block: &mut [u8]) -> u32
     if block.len() != BYTES {
         return SIZE;
     }
-    let old = block::words(block);
-    let map = block::map_in(&old);
-    let ws = block::reset_words(&map);
-    block::put_words(block, &ws);
+    let map = Words::read(block).map();
+    Words::reset(&map).write(block);
     DONE
 }
 
-// Region k: that very part of the memory, or an empty one.
+// Where region k begins and ends in the memory, if it is handed out.
+fn part(block: &[u8], memory: &[u8], k: u32) -> Option<(usize, usize)>
+    ensures { MatchOption result (handed block.now memory.now k ≡ false) (IsPart block.now memory.now k) }
+{
+    if k > 3 || block.len() != BYTES || memory.len() > MEMORY {
+        return None;
+    }
+    let map = Map::new(Words::read(block).map(), memory.len())?;
+    let j = k as usize;
+    let from = map.offset(j) as usize;
+    Some((from, from + map.size(j) as usize))
+}
+
+// Region k: that very part of the memory, or an empty one. A slice and no Option, as it cannot fail: `view`, `NoPart`.
 pub fn region<'a>(block: &[u8], memory: &'a mut [u8], k: u32) -> &'a mut [u8]
     ensures { (result.now ≡ view block.now memory.old k) × (result.ref_ptr ≡ on_by (view_from block.now memory.old k) memory.entry.ref_ptr) }
 {
-    if k > 3 {
-        return &mut memory[0..0];
-    }
-    if block.len() != BYTES {
-        return &mut memory[0..0];
-    }
-    if memory.len() > MEMORY {
-        return &mut memory[0..0];
-    }
-    let ws = block::words(block);
-    let map = block::map_in(&ws);
-    if !map_check::good_map(&map, memory.len()) {
-        return &mut memory[0..0];
-    }
-    let j = k as usize;
-    let from = regions::offset(&map, j) as usize;
-    let to = from + regions::size(&map, j) as usize;
+    let (from, to) = part(block, memory, k).unwrap_or((0, 0));
     &mut memory[from..to]
 }

@@ -1,6 +1,6 @@
 pub mod Readings
 pub mod Exact
-pub mod Overflow
 pub mod Bits
-pub mod Keys
 pub mod Settings
+pub mod Overflow
+pub mod Fields

@@ -1,110 +1,121 @@
--- Carry and overflow without the exact result: by comparison, and by the signs of the operands and of what 32 bits hold.
-use Rattle.std.proofs.Common.{◌≡◌, ℕ, zero, suc, ◌+◌, ◌-◌, ◌/◌, ◌^◌, ◌<◌, Bool, false, eqb, ltb, ℤ, pos, negsuc, ◌+ℤ◌, ◌-ℤ◌, sym, refl, ap, ◌∙◌, arith, w32, Fits, le-ltb, lt-ltb, le-leb}
-use lib.Bits.{bit_and, bit_xor}
-use lib.IntN.{sub_ℕ}
-use lib.Signed.{mag}
+-- OV and CY of sums and differences, by the signs and the size of what 32 bits hold.
+use Rattle.std.proofs.Common.{◌≡◌, ℕ, ◌-◌, ◌*◌, ◌/◌, ◌^◌, ◌<◌, ◌≤◌, Bool, true, false, cond, ltb, ℤ, pos, negsuc, ◌+ℤ◌, ◌-ℤ◌, refl, ◌∙◌, arith, w32, SFits, ltb-true, ltb-false, le-leb}
+use Rattle.std.proofs.lemmas.Int.{ints}
+use Rattle.std.proofs.lemmas.Bool.Decides.{nat_tests}
+use Rattle.std.specs.Bool.{beq, FalseIff}
+use mathlib.Core.Bool.{not, ◌&&◌}
+use Rattle.std.proofs.lemmas.Bool.Decides.{leb_tells}
+use Rattle.std.proofs.Common.{inl, inr}
 use borrow.Author.Tests.{lt-leb}
-use Rattle.word.specs.Word.{W, signed, word_of, overflow}
+use lib.Signed.{◌≤ℤ◌, ◌<ℤ◌}
+use mir.Facts.{of_z-to_z}
+use Rattle.std.proofs.Common.{ap}
+use Rattle.word.specs.Word.{W, signed, word_of, negative?, greatest, least, overflow, nearest}
+use Rattle.word.proofs.Exact.{overflows}
 use Rattle.word.specs.Sums.{sum, difference, carry}
-use Rattle.word.proofs.Readings.{signed-fits, word-signed}
-use Rattle.word.proofs.Exact.{either, by_order, within, above, beneath}
 
--- a sum that wrapped is less than each of its parts
+-- what a word's sign says of it
+abbrev Sign : ℕ → Bool → Type 0
+Sign a true = 2 ^ 31 ≤ a
+Sign a false = a < 2 ^ 31
+
+sign : (a : ℕ) → Sign a (negative? a)
+sign a = elim (leb_tells (2 ^ 31) a) [ inl t ↦ rw t.0 t.1 | inr t ↦ rw t.0 t.1 ]
+
+-- the signed number is the word, less W where bit 31 is 1
+value : (a : ℕ) → a < W → (signed a +ℤ pos (a / 2 ^ 31 * W)) ≡ pos a
+value a h = go (ltb a (2 ^ 31)) refl
+  where
+    go : (t : Bool) → ltb a (2 ^ 31) ≡ t → (signed a +ℤ pos (a / 2 ^ 31 * W)) ≡ pos a
+    go true e = let l = ltb-true a (2 ^ 31) e in rw e (omega (arith, ints))
+    go false e = let l = ltb-false a (2 ^ 31) e in rw e (omega (arith, ints))
+
+fits : (z : ℤ) → (z ≤ℤ greatest) → (least ≤ℤ z) → SFits w32 z
+fits (pos n) h k = record { sfits = omega (arith, ints) }
+fits (negsuc n) h k = record { sfits = omega (arith, ints) }
+
+-- two words, and what their signed numbers are worth
+module _ (a b : ℕ) (h : a < W) (k : b < W) (x : (signed a +ℤ pos (a / 2 ^ 31 * W)) ≡ pos a) (y : (signed b +ℤ pos (b / 2 ^ 31 * W)) ≡ pos b) where
+  -- the sum does not fit where both differ from it in sign
+  tells : (p q s : Bool) → Sign a p → Sign b q → Sign (sum a b) s → FalseIff (not (beq p s) && not (beq q s)) (SFits w32 (signed a +ℤ signed b))
+  tells true true true i j l = fits _ (omega (arith, ints)) (omega (arith, ints))
+  tells true true false i j l = λ f. absurd (omega (arith, ints, f))
+  tells true false true i j l = fits _ (omega (arith, ints)) (omega (arith, ints))
+  tells true false false i j l = fits _ (omega (arith, ints)) (omega (arith, ints))
+  tells false true true i j l = fits _ (omega (arith, ints)) (omega (arith, ints))
+  tells false true false i j l = fits _ (omega (arith, ints)) (omega (arith, ints))
+  tells false false true i j l = λ f. absurd (omega (arith, ints, f))
+  tells false false false i j l = fits _ (omega (arith, ints)) (omega (arith, ints))
+
+pub sum_tells : (a b : ℕ) → a < W → b < W → FalseIff (not (beq (negative? a) (negative? (sum a b))) && not (beq (negative? b) (negative? (sum a b)))) (SFits w32 (signed a +ℤ signed b))
+sum_tells a b h k =
+    tells a b h k (value a h) (value b k) (negative? a) (negative? b) (negative? (sum a b)) (sign a) (sign b) (sign (sum a b))
+
+-- a difference fits where what was taken away, put back, gives a sum that does
+module _ (a b : ℕ) (h : a < W) (k : b < W) where
+  back : SFits w32 (signed a -ℤ signed b) → SFits w32 (signed (difference a b) +ℤ signed b)
+  back f =
+      let r : difference a b < W = omega arith in
+      fits _
+      (omega (arith, ints, value a h, value b k, value (difference a b) r))
+      (omega (arith, ints, value a h, value b k, value (difference a b) r))
+
+  away : SFits w32 (signed (difference a b) +ℤ signed b) → SFits w32 (signed a -ℤ signed b)
+  away f =
+      let r : difference a b < W = omega arith in
+      fits _
+      (omega (arith, ints, value a h, value b k, value (difference a b) r))
+      (omega (arith, ints, value a h, value b k, value (difference a b) r))
+
+  put_back : (ov : Bool) → FalseIff ov (SFits w32 (signed (difference a b) +ℤ signed b)) → FalseIff ov (SFits w32 (signed a -ℤ signed b))
+  put_back true n = λ f. n (back f)
+  put_back false n = away n
+
+  pub taken : (ov : Bool) (r : ℕ) → r ≡ difference a b → FalseIff ov (SFits w32 (signed r +ℤ signed b)) → ov ≡ overflow (signed a -ℤ signed b)
+  taken ov r e n = overflows (signed a -ℤ signed b) ov (put_back ov (rw e at n))
+
+-- what saturation stores of an exact result z that is r in 32 bits, of a sum or difference of a: r where z fits, else the end on a's side
+abbrev pub Stored : ℕ → ℤ → ℕ → Type 0
+Stored a z r = word_of (nearest z) ≡ cond (overflow z) (cond (negative? a) (2 ^ 31) (2 ^ 31 - 1)) r
+
+stored : (a r : ℕ) (z : ℤ) → r < W → (SFits w32 z → z ≡ signed r) → ((greatest <ℤ z) → a < 2 ^ 31) → ((z <ℤ least) → 2 ^ 31 ≤ a) → Stored a z r
+unfolding overflow nearest
+stored a r (pos n) h same above below = go (ltb (2 ^ 31 - 1) n) refl
+  where
+    go : (t : Bool) → ltb (2 ^ 31 - 1) n ≡ t → Stored a (pos n) r
+    go true e =
+        let l = ltb-true (2 ^ 31 - 1) n e in
+        simp (e, lt-leb (2 ^ 31) a (above (omega (arith, ints))))
+    go false e =
+        let l = ltb-false (2 ^ 31 - 1) n e in
+        simp e (ap word_of (same (record { sfits = omega arith })) ∙ of_z-to_z {w = w32} (record { fits = h }))
+stored a r (negsuc n) h same above below = go (ltb (2 ^ 31 - 1) n) refl
+  where
+    go : (t : Bool) → ltb (2 ^ 31 - 1) n ≡ t → Stored a (negsuc n) r
+    go true e =
+        let l = ltb-true (2 ^ 31 - 1) n e in
+        simp (e, le-leb (2 ^ 31) a (below (omega (arith, ints))))
+    go false e =
+        let l = ltb-false (2 ^ 31 - 1) n e in
+        simp e (ap word_of (same (record { sfits = omega arith })) ∙ of_z-to_z {w = w32} (record { fits = h }))
+
+module _ (a b : ℕ) (h : a < W) (k : b < W) where
+  pub stored_sum : Stored a (signed a +ℤ signed b) (sum a b)
+  stored_sum =
+      let r : sum a b < W = omega arith in
+      stored a (sum a b) (signed a +ℤ signed b) r
+      (λ f. omega (arith, ints, f, value a h, value b k, value (sum a b) r))
+      (λ l. omega (arith, ints, value a h, value b k))
+      (λ l. omega (arith, ints, value a h, value b k))
+
+  pub stored_difference : Stored a (signed a -ℤ signed b) (difference a b)
+  stored_difference =
+      let r : difference a b < W = omega arith in
+      stored a (difference a b) (signed a -ℤ signed b) r
+      (λ f. omega (arith, ints, f, value a h, value b k, value (difference a b) r))
+      (λ l. omega (arith, ints, value a h, value b k))
+      (λ l. omega (arith, ints, value a h, value b k))
+
+-- CY: a sum that wrapped is less than each of its parts
 pub wrapped : (a b : ℕ) → a < W → b < W → ltb (sum a b) a ≡ carry a b
-wrapped a b h k =
-    either (a + b) W
-    (λ l. le-ltb (sum a b) a (omega arith) ∙ sym (lt-leb W (a + b) l))
-    (λ l. lt-ltb (sum a b) a (omega arith) ∙ sym (le-leb W (a + b) l))
-
--- what the signs of two words and of their sum, or of their difference, say of overflow
-abbrev sum_test : ℕ → ℕ → ℕ → Bool
-sum_test p q s = eqb (bit_and (bit_xor p s) (bit_xor q s)) 1
-
-abbrev difference_test : ℕ → ℕ → ℕ → Bool
-difference_test p q s = eqb (bit_and (bit_xor p q) (bit_xor p s)) 1
-
-abbrev sign : ℕ → ℕ
-sign a = a / 2 ^ 31
-
--- the test of the words a, b and r tells of the exact result z
-abbrev Tells : (ℕ → ℕ → ℕ → Bool) → ℕ → ℕ → ℕ → ℤ → Type 0
-Tells test a b r z = test (sign a) (sign b) (sign r) ≡ overflow z
-
--- one case: the signs are p, q and s
-tells : (test : ℕ → ℕ → ℕ → Bool) (a b r p q : ℕ) → sign a ≡ p → sign b ≡ q → (s : ℕ) (z : ℤ) → sign r ≡ s → overflow z ≡ test p q s → Tells test a b r z
-tells test a b r p q e f s z g h = rw (e, f, g) (sym h)
-
-kept : (z : ℤ) → mag z < 2 ^ 31 → overflow z ≡ false
-kept z h = (within z (record { sfits = h })).0
-
--- m - k and -1 - m - k
-minus_pos : (m k : ℕ) → pos m -ℤ pos k ≡ sub_ℕ m k
-minus_pos m zero = rw (le-ltb m 0 (omega arith)) (ap pos (omega arith))
-minus_pos m (suc k) = refl
-
-minus_neg : (m k : ℕ) → negsuc m -ℤ pos k ≡ negsuc (m + k)
-minus_neg m zero = rw (lt-ltb 0 (suc m) (omega arith)) (ap negsuc (omega arith))
-minus_neg m (suc k) = ap negsuc (omega arith)
-
-sum_signs : (x y : ℤ) → mag x < 2 ^ 31 → mag y < 2 ^ 31 → Tells sum_test (word_of x) (word_of y) (sum (word_of x) (word_of y)) (x +ℤ y)
-sum_signs (pos m) (pos k) f g =
-    let case = tells sum_test m k (sum m k) 0 0 (omega arith) (omega arith) in
-    either (m + k) (2 ^ 31)
-    (λ l. case 0 (pos (m + k)) (omega arith) (kept _ l))
-    (λ l. case 1 (pos (m + k)) (omega arith) (above _ l).0)
-sum_signs (pos m) (negsuc k) f g =
-    let b = W - suc k in
-    let case = tells sum_test m b (sum m b) 0 1 (omega arith) (omega arith) in
-    by_order (Tells sum_test m b (sum m b)) m (suc k)
-    (λ l. case 1 _ (omega arith) (kept _ (omega arith)))
-    (λ l. case 0 _ (omega arith) (kept _ (omega arith)))
-sum_signs (negsuc m) (pos k) f g =
-    let a = W - suc m in
-    let case = tells sum_test a k (sum a k) 1 0 (omega arith) (omega arith) in
-    by_order (Tells sum_test a k (sum a k)) k (suc m)
-    (λ l. case 1 _ (omega arith) (kept _ (omega arith)))
-    (λ l. case 0 _ (omega arith) (kept _ (omega arith)))
-sum_signs (negsuc m) (negsuc k) f g =
-    let a = W - suc m in
-    let b = W - suc k in
-    let case = tells sum_test a b (sum a b) 1 1 (omega arith) (omega arith) in
-    either (suc (m + k)) (2 ^ 31)
-    (λ l. case 1 (negsuc (suc (m + k))) (omega arith) (kept _ l))
-    (λ l. case 0 (negsuc (suc (m + k))) (omega arith) (beneath _ l).0)
-
-difference_signs : (x y : ℤ) → mag x < 2 ^ 31 → mag y < 2 ^ 31 → Tells difference_test (word_of x) (word_of y) (difference (word_of x) (word_of y)) (x -ℤ y)
-difference_signs (pos m) (pos k) f g =
-    let case = tells difference_test m k (difference m k) 0 0 (omega arith) (omega arith) in
-    rw (minus_pos m k)
-    (by_order (Tells difference_test m k (difference m k)) m k
-    (λ l. case 1 _ (omega arith) (kept _ (omega arith)))
-    (λ l. case 0 _ (omega arith) (kept _ (omega arith))))
-difference_signs (pos m) (negsuc k) f g =
-    let b = W - suc k in
-    let case = tells difference_test m b (difference m b) 0 1 (omega arith) (omega arith) in
-    either (m + suc k) (2 ^ 31)
-    (λ l. case 0 (pos (m + suc k)) (omega arith) (kept _ l))
-    (λ l. case 1 (pos (m + suc k)) (omega arith) (above _ l).0)
-difference_signs (negsuc m) (pos k) f g =
-    let a = W - suc m in
-    let case = tells difference_test a k (difference a k) 1 0 (omega arith) (omega arith) in
-    rw (minus_neg m k)
-    (either (m + k) (2 ^ 31)
-    (λ l. case 1 (negsuc (m + k)) (omega arith) (kept _ l))
-    (λ l. case 0 (negsuc (m + k)) (omega arith) (beneath _ l).0))
-difference_signs (negsuc m) (negsuc k) f g =
-    let a = W - suc m in
-    let b = W - suc k in
-    let case = tells difference_test a b (difference a b) 1 1 (omega arith) (omega arith) in
-    by_order (Tells difference_test a b (difference a b)) (suc k) (suc m)
-    (λ l. case 1 _ (omega arith) (kept _ (omega arith)))
-    (λ l. case 0 _ (omega arith) (kept _ (omega arith)))
-
--- the sum and the difference of two words
-module _ {a b : ℕ} (f : Fits w32 a) (g : Fits w32 b) where
-  pub sum_tells : Tells sum_test a b (sum a b) (signed a +ℤ signed b)
-  sum_tells = rw (word-signed f, word-signed g) at (sum_signs (signed a) (signed b) (signed-fits f).sfits (signed-fits g).sfits)
-
-  pub difference_tells : Tells difference_test a b (difference a b) (signed a -ℤ signed b)
-  difference_tells =
-      rw (word-signed f, word-signed g) at (difference_signs (signed a) (signed b) (signed-fits f).sfits (signed-fits g).sfits)
+wrapped a b h k = grind (arith, nat_tests)

@@ -22,10 +22,10 @@ pub word_of_word : (z : ℤ) → mag z < W → word_of z < W
 word_of_word (pos n) h = h
 word_of_word (negsuc n) h = omega arith
 
-signed-size : (a : ℕ) → a < W → mag (signed a) < 2 ^ 31
+pub signed-size : (a : ℕ) → a < W → mag (signed a) < 2 ^ 31
 signed-size a h = (sfits_to_z {w = w32} (Fits-of_lt {w = w32} h)).sfits
 
-half-size : (a : ℕ) → mag (signed_half a) < 2 ^ 15
+pub half-size : (a : ℕ) → mag (signed_half a) < 2 ^ 15
 half-size a = (sfits_to_z {w = w16} (Fits-of_lt {w = w16} {n = a % 2 ^ 16} (omega arith))).sfits
 
 neg_size : (q n : ℕ) → q ≤ n → mag (neg_ℤ (pos q)) ≤ n
@@ -41,7 +41,7 @@ unfolding nearest
 nearest-size (pos n) = kept_size greatest (pos n) (omega arith) (nat_lt (2 ^ 31 - 1) n) refl
 nearest-size (negsuc n) = kept_size least (negsuc n) (omega arith) (nat_lt (2 ^ 31 - 1) n) refl
 
-product_size : (a b : ℤ) (n : ℕ) → mag a < n → mag b < n → mag (a *ℤ b) ≤ n * n
+pub product_size : (a b : ℤ) (n : ℕ) → mag a < n → mag b < n → mag (a *ℤ b) ≤ n * n
 product_size (pos a) (pos b) n h k = mul-le-mul {n₁ = a} {m₁ = b} {n₂ = n} {m₂ = n} (omega arith) (omega arith)
 product_size (pos a) (negsuc b) n h k =
     neg_size (a * suc b) (n * n) (mul-le-mul {n₁ = a} {m₁ = suc b} {n₂ = n} {m₂ = n} (omega arith) (omega arith))
@@ -96,12 +96,13 @@ mulh-word a b =
     let z = signed_half a *ℤ signed_half b in
     word_of_word z (omega (arith, product_size (signed_half a) (signed_half b) (2 ^ 15) (half-size a) (half-size b)))
 
+pub quotient-word : (a b : ℕ) → a < W → word_of (int_div (signed a) (signed_half b)) < W
+quotient-word a b h =
+    word_of_word (int_div (signed a) (signed_half b)) (omega (arith, quotient_size (signed a) (signed_half b), signed-size a h))
+
 pub divh-word : (a b : ℕ) → a < W → (divh a b).result < W
 unfolding divh
-divh-word a b h =
-    let z = int_div (signed a) (signed_half b) in
-    cond_holds (λ (r : Computed). r.result < W) (b % 2 ^ 16 == 0) h
-    (word_of_word z (omega (arith, quotient_size (signed a) (signed_half b), signed-size a h)))
+divh-word a b h = cond_holds (λ (r : Computed). r.result < W) (b % 2 ^ 16 == 0) h (quotient-word a b h)
 
 -- a field counted by its sign
 pub by_sign_word : (half n : ℕ) → n < 2 * half → 2 * half ≤ W → by_sign half n < W

@@ -5,6 +5,7 @@ pub mod Products
 pub mod Extend
 pub mod Bounds
 pub mod Flags
+pub mod Settings
 pub mod Tests
 pub mod FlagLaws
 pub mod Numbers

@@ -1,6 +1,9 @@
 // The arithmetic of 32-bit words: what the manual's instructions compute, on numbers alone.
 #![tactic(auto)]
 
+ghost use Rattle.std.specs.Prelude.{◌≡◌};
+ghost use Rattle.word.specs.Word.{computed};
+
 pub mod extend;
 pub mod flags;
 pub mod products;
@@ -16,4 +19,19 @@ pub struct Computed {
     pub s: bool,
     pub ov: bool,
     pub cy: bool,
+}
+
+impl Computed {
+    // A result with Z and S of it.
+    pub fn new(r: u32, ov: bool, cy: bool) -> Computed
+        ensures { result ≡ computed r ov cy }
+    {
+        Computed {
+            result: r,
+            z: r == 0,
+            s: 0x80000000 <= r,
+            ov: ov,
+            cy: cy,
+        }
+    }
 }

@@ -5,17 +5,18 @@ ghost use Rattle.word.specs.Products.{mulh, divh};
 use crate::{Computed, signed};
 
 // MULH: the product of the low halves.
+#[tactic(auto, using(crate::proofs::Readings::read, crate::proofs::Exact::product_fits), unfolding(crate::specs::Products::mulh))]
 pub fn mulh(a: u32, b: u32) -> u32
     ensures { result ≡ mulh a b }
 {
-    signed::word_of(signed::signed_half(a) * signed::signed_half(b))
+    (signed::signed_half(a) * signed::signed_half(b)).cast_unsigned()
 }
 
-// DIVH: a by the low half of b. The least number by -1 is the one quotient that is no signed word.
+// DIVH: a by the low half of b. The least number by -1 is the one quotient that is no signed word: it overflows, and wraps to itself.
 pub fn divh(a: u32, b: u32) -> Computed
     ensures { result ≡ divh a b }
 {
-    let d = b % 0x10000;
+    let d = signed::signed_half(b);
     if d == 0 {
         return Computed {
             result: a,
@@ -25,14 +26,6 @@ pub fn divh(a: u32, b: u32) -> Computed
             cy: false,
         };
     }
-    if a == 0x80000000 {
-        if d == 65535 {
-            return signed::computed(a, true, false);
-        }
-    }
-    signed::computed(
-        signed::word_of(signed::signed(a) / signed::signed_half(b)),
-        false,
-        false,
-    )
+    let (q, ov) = a.cast_signed().overflowing_div(d);
+    Computed::new(q.cast_unsigned(), ov, false)
 }

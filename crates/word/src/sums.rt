@@ -1,93 +1,88 @@
 // Sums and differences of words. They wrap on purpose.
-ghost use Rattle.std.specs.Prelude.{◌≡◌, ◌-◌, ◌/◌, ◌^◌, ◌+ℤ◌, ◌-ℤ◌, if◌then◌else◌, nat_lt};
-ghost use Rattle.word.specs.Word.{signed, overflow};
-ghost use Rattle.word.specs.Sums.{sum, difference, carry, add, sub, satadd, satsub};
+ghost use Rattle.std.specs.Prelude.{◌≡◌, ◌-◌, ◌^◌, ◌+ℤ◌, cond, FitsSigned};
+ghost use Rattle.std.specs.Bool.{FalseIff};
+ghost use Rattle.std.specs.Int.{w32};
+ghost use Rattle.word.specs.Word.{signed, negative?, computed};
+ghost use Rattle.word.specs.Sums.{sum, difference, add, sub, satadd, satsub};
 
-use crate::{Computed, signed};
+use crate::Computed;
 
-// a + b and a - b as 32 bits hold them.
+// a + b and a - b as 32 bits hold them: the library's, under the definition's names, as docs/DECISIONS.md has them.
 pub fn sum(a: u32, b: u32) -> u32
     ensures { result ≡ sum a b }
 {
-    std::num::wrapping_add_u32(a, b)
+    a.wrapping_add(b)
 }
 
 pub fn difference(a: u32, b: u32) -> u32
     ensures { result ≡ difference a b }
 {
-    std::num::wrapping_sub_u32(a, b)
+    a.wrapping_sub(b)
 }
 
-// A sum that wrapped is less than each of its parts.
-fn carry(a: u32, b: u32) -> bool
-    ensures { result ≡ carry a b }
+// A word below 0, read as a signed number.
+fn negative(a: u32) -> bool
+    ensures { result ≡ negative? a }
 {
-    sum(a, b) < a
+    0x80000000 <= a
 }
 
-fn sign(a: u32) -> u32
-    ensures { result ≡ a / 2 ^ 31 }
+// OV of a sum r of a and b: both differ from it in sign. Tried and slower: i32's overflowing_add and overflowing_sub, which say the same,
+// with up to 1.9 instructions a step more (the image mem).
+#[tactic(auto, using(crate::proofs::Overflow::sum_tells))]
+fn overflow(a: u32, b: u32, r: u32) -> bool
+    requires { r ≡ sum a b }
+    ensures { FalseIff result (FitsSigned w32 (signed a +ℤ signed b)) }
 {
-    a / 0x80000000
-}
-
-// OV of the shared sum: both operands differ from it in sign.
-fn sum_overflow(a: u32, b: u32) -> bool
-    ensures { result ≡ overflow (signed a +ℤ signed b) }
-{
-    let s = sign(sum(a, b));
-    (sign(a) ^ s) & (sign(b) ^ s) == 1
-}
-
-// OV of the shared difference: a differs in sign from b and from the result.
-fn difference_overflow(a: u32, b: u32) -> bool
-    ensures { result ≡ overflow (signed a -ℤ signed b) }
-{
-    let s = sign(difference(a, b));
-    (sign(a) ^ sign(b)) & (sign(a) ^ s) == 1
+    (negative(a) != negative(r)) & (negative(b) != negative(r))
 }
 
 // ADD: a + b.
+#[tactic(auto, using(crate::proofs::Exact::overflows, crate::proofs::Overflow::wrapped), unfolding(crate::specs::Sums::add))]
 pub fn add(a: u32, b: u32) -> Computed
     ensures { result ≡ add a b }
 {
-    signed::computed(sum(a, b), sum_overflow(a, b), carry(a, b))
+    let r = sum(a, b);
+    Computed::new(r, overflow(a, b, r), r < a)
 }
 
-// SUB: a - b.
+// SUB: a - b. What was taken away, put back, gives a again, and overflows where a - b did.
+#[tactic(auto, using(crate::proofs::Overflow::taken), unfolding(crate::specs::Sums::sub))]
 pub fn sub(a: u32, b: u32) -> Computed
     ensures { result ≡ sub a b }
 {
-    signed::computed(difference(a, b), difference_overflow(a, b), a < b)
+    let r = difference(a, b);
+    Computed::new(r, overflow(r, b, a), a < b)
 }
 
-// The word that a sum or difference r of a stores: where it overflows, the end of the signed words on a's side.
-fn saturated(a: u32, r: u32, ov: bool) -> u32
-    ensures { result ≡ (if ov then (if nat_lt a (2 ^ 31) then 2 ^ 31 - 1 else 2 ^ 31) else r) }
+// What SATADD and SATSUB store of a sum or difference of a: where it overflows, the end of the signed words on a's side.
+// Z and S are of what is stored, OV and CY of the exact result. Tried and slower: i32's saturating_add and saturating_sub, which look for
+// the overflow once more, with 1.4 instructions a step more (the image mulsat).
+fn saturated(a: u32, exact: Computed) -> Computed
+    ensures { result ≡ computed (cond exact.ov (cond (negative? a) (2 ^ 31) (2 ^ 31 - 1)) exact.result) exact.ov exact.cy }
 {
-    if ov {
-        if a < 0x80000000 {
-            0x7FFFFFFF
-        } else {
-            0x80000000
-        }
+    let stored = if !exact.ov {
+        exact.result
+    } else if negative(a) {
+        0x80000000
     } else {
-        r
-    }
+        0x7FFFFFFF
+    };
+    Computed::new(stored, exact.ov, exact.cy)
 }
 
-// SATADD: a + b, saturated.
+// SATADD and SATSUB, saturated. The four stay apart, a line or two for each instruction: they share `overflow` and `saturated`.
+#[tactic(auto, using(crate::proofs::Overflow::stored_sum), unfolding(crate::specs::Sums::add, crate::specs::Sums::satadd))]
 pub fn satadd(a: u32, b: u32) -> Computed
     ensures { result ≡ satadd a b }
 {
-    let e = add(a, b);
-    signed::computed(saturated(a, e.result, e.ov), e.ov, e.cy)
+    saturated(a, add(a, b))
 }
 
 // SATSUB: a - b, saturated.
+#[tactic(auto, using(crate::proofs::Overflow::stored_difference), unfolding(crate::specs::Sums::sub, crate::specs::Sums::satsub))]
 pub fn satsub(a: u32, b: u32) -> Computed
     ensures { result ≡ satsub a b }
 {
-    let d = sub(a, b);
-    signed::computed(saturated(a, d.result, d.ov), d.ov, d.cy)
+    saturated(a, sub(a, b))
 }

@@ -1,13 +1,16 @@
 -- The line fits its room (`line-fits`), so what goes out is a part of the room.
-use Rattle.std.proofs.Common.{◌≤◌, length, sym, arith, length-take-le}
+use Rattle.std.proofs.Common.{◌≤◌, List, ℕ, length, sym, arith, length-take-le}
+use Rattle.bench_line.specs.Text.{Wrote}
 use Rattle.bench_line.specs.TextLaws.{wrote_long}
+use Rattle.bench_line.specs.Line.{line, LONGEST}
 use Rattle.bench_line.specs.LineLaws.{line-fits}
 use Rattle.bench_io.proofs.answer.Goals as goal
 
+within : (input : List ℕ) {before after : List ℕ} {n : ℕ} → Wrote before 0 (line input) after n → LONGEST ≤ length before → n ≤ length after
+within input w h = omega (arith, line-fits input, wrote_long w)
+
 pub slice_bounds-out-end : goal.slice_bounds-out-end
-slice_bounds-out-end g c = omega (arith, line-fits c.args.input.now, wrote_long c.line-n.ensures)
+slice_bounds-out-end g c = within _ c.line-long.ensures (omega arith)
 
 pub slice_bounds-write_all-end : goal.slice_bounds-write_all-end
-slice_bounds-write_all-end g c =
-    let h : c.line-n.result ≤ length c.line-n.new.out = omega (arith, line-fits c.args.input.now, wrote_long c.line-n.ensures) in
-    sym (length-take-le c.line-n.result c.line-n.new.out h)
+slice_bounds-write_all-end g c = sym (length-take-le c.line-long.result c.line-long.new.out (within _ c.line-long.ensures (omega arith)))

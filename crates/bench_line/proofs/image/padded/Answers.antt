@@ -1,6 +1,6 @@
--- The input written to zeros leaves the zeros behind it.
-use Rattle.bench_line.specs.LineLaws.{padded_wrote}
+-- Zeros but for the first ones are zeros.
+use Rattle.std.proofs.lemmas.List.{drop-replicate}
 use Rattle.bench_line.proofs.image.padded.Goals as goal
 
 pub returns : goal.returns
-returns c = padded_wrote c.args.input.now _ _ c.requires c.put.ensures
+returns c = rw (drop-replicate, c.copy_from_slice.ensures.after)

@@ -6,4 +6,4 @@ use Rattle.bench_line.proofs.image.start_block.Goals as goal
 
 pub returns : goal.returns
 unfolding reset words_from
-returns c = ap (λ (x : Reset). x.block) c.v850_reset.ensures
+returns c = ap (λ (x : Reset). x.block) (rw (c.copy_from_slice.ensures.after, c.to_le_bytes.ensures) at c.v850_reset.ensures)

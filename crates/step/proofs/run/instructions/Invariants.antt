@@ -8,9 +8,9 @@ use Rattle.step.proofs.run.instructions.Given as goal
 abbrev pub invariant-loop-calm : goal.invariant-loop-calm
 invariant-loop-calm l =
     (l.from ≤ l.n) × (l.calm ≡ true → acts (open_of l.o) ≡ false) × (l.calm ≡ false → l.from < l.n)
-    × Going l.budget l.map l.sizes l.initial.mem l.initial.marks
-    (run (l.budget - l.from) l.from l.map (open_of l.initial.o) (both l.initial.cells l.initial.tags) (both l.initial.mem l.initial.marks))
-    l.n (open_of l.o) (both l.cells l.tags) l.mem l.marks
+    × Going l.budget l.map l.initial.mem l.initial.marks
+    (run (l.budget - l.from) l.from l.map (open_of l.initial.o) l.initial.cells (both l.initial.mem l.initial.marks))
+    l.n (open_of l.o) l.cells l.mem l.marks
 
 abbrev pub decreases-loop-calm : goal.decreases-loop-calm
 decreases-loop-calm l = l.budget - l.n

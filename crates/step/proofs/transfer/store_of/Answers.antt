@@ -1,34 +1,6 @@
--- The proof goes the way of the definition: the base revealed, its address placed, and the bytes written.
-use native.Mathlib.Omega.{arith}
-use Rattle.step.specs.StepLaws.{opened, leaked, placed, nowhere, on, fits, finds}
-use mathlib.Core.Path.{refl, ◌∙◌}
 use Rattle.word.specs.Extend.{sum24}
-use Rattle.machine.specs.Step.{store}
+use Rattle.step.specs.StepLaws.{fits}
 use Rattle.step.proofs.transfer.store_of.Goals as goal
 
-pub returns-then-b : goal.returns-then-b
-unfolding store
-returns-then-b c = leaked _ _ _ _ c.reg-b.ensures c.if-b.true c.leak.ensures
-
-pub find-requires : goal.find-requires
-find-requires c = finds c.requires.0 (omega arith)
-
 pub store-requires : goal.store-requires
-store-requires c =
-    fits c.requires.0 c.args.size 2 (sum24 c.reg-b.result.val c.args.disp)
-    c.address-a.ensures c.find.ensures c.in-At.is
-
-pub returns-in-At : goal.returns-in-At
-unfolding store
-returns-in-At c =
-    opened _ _ _ _ c.reg-b.ensures c.if-b.false
-    (placed _ _ _ _ _ _ c.address-a.ensures c.find.ensures c.in-At.is
-    (on c.plus.ensures refl refl
-    (c.store.ensures ∙ rw c.reg-v.ensures)))
-
-pub returns-in-Nowhere : goal.returns-in-Nowhere
-unfolding store
-returns-in-Nowhere c =
-    rw c.refuse.ensures
-    (opened _ _ _ _ c.reg-b.ensures c.if-b.false
-    (nowhere _ _ _ _ _ _ c.address-a.ensures c.find.ensures c.in-Nowhere.is))
+store-requires c = fits c.requires c.args.size 2 (sum24 c.in_ok-b.b c.args.disp) c.address-a.ensures c.find.ensures c.in-Some.is

@@ -1,9 +1,0 @@
--- The definition, at four bytes.
-use native.Mathlib.Nat.{add-zero}
-use Rattle.machine.specs.Memory.{little_endian}
-use Rattle.state.proofs.memory.word.Goals as goal
-
-pub returns : goal.returns
-unfolding little_endian
-returns c =
-    simp (c.byte.ensures.0, c.byte-2.ensures.0, c.byte-3.ensures.0, c.byte-4.ensures.0, add-zero)

@@ -1,8 +1,0 @@
--- The flags are written, then the register: the other way round it is the definition.
-use mathlib.Core.Path.{◌∙◌}
-use Rattle.machine.specs.declared.Kind.TheVariants.{Divide}
-use Rattle.state.proofs.Flags.{flags_first}
-use Rattle.state.proofs.operations.divide.Goals as goal
-
-pub returns : goal.returns
-returns c = c.write.ensures ∙ rw c.divide_flags.ensures (flags_first Divide _ _ _ _ _)

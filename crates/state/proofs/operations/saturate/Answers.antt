@@ -1,8 +1,0 @@
--- The flags are written, then the register: the other way round it is the definition.
-use mathlib.Core.Path.{◌∙◌}
-use Rattle.machine.specs.declared.Kind.TheVariants.{Saturate}
-use Rattle.state.proofs.Flags.{flags_first}
-use Rattle.state.proofs.operations.saturate.Goals as goal
-
-pub returns : goal.returns
-returns c = c.write.ensures ∙ rw c.saturate_flags.ensures (flags_first Saturate _ _ _ _ _)
