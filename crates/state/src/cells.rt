@@ -11,6 +11,19 @@ pub const CELLS: usize = 38;
 
 const REGS: u32 = 32;
 
+// Which cell is which, behind the registers.
+pub const EIPC: usize = 32;
+
+pub const EIPSW: usize = 33;
+
+pub const FEPC: usize = 34;
+
+pub const FEPSW: usize = 35;
+
+pub const ECR: usize = 36;
+
+pub const PSW: usize = 37;
+
 // In clauses, the definition's cells, which are two lists beside each other, of which `edit` takes one alone; so are these. A mark is a byte
 // of its own: a register's is 0 or 1, and of a saved PSW and the flags it is bits.
 #[derive(Drop)]

@@ -10,7 +10,7 @@ use std::marker::Model;
 use word::{extend, sums};
 
 // How many sizes of regions there are: three rights' of four.
-const SIZES: usize = 12;
+pub const SIZES: usize = 12;
 
 #[derive(Clone, Copy)]
 pub enum Right {

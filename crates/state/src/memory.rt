@@ -33,7 +33,7 @@ fn half(mem: &[u8], p: usize) -> u32
     requires { p + 2 ≤ length mem.now }
     ensures { (result ≡ little_endian (get_or mem.now p 0 ∷ get_or mem.now (p + 1) 0 ∷ [])) × (result < 2 ^ 16) }
 {
-    byte(mem, p) + 256 * byte(mem, p + 1)
+    u32::from(u16::from_le_bytes([mem[p], mem[p + 1]]))
 }
 
 #[tactic(auto, unfolding(machine::specs::Memory::little_endian))]
@@ -41,7 +41,7 @@ fn word(mem: &[u8], p: usize) -> u32
     requires { p + 4 ≤ length mem.now }
     ensures { result ≡ little_endian (get_or mem.now p 0 ∷ get_or mem.now (p + 1) 0 ∷ get_or mem.now (p + 2) 0 ∷ get_or mem.now (p + 3) 0 ∷ []) }
 {
-    byte(mem, p) + 256 * (byte(mem, p + 1) + 256 * (byte(mem, p + 2) + 256 * byte(mem, p + 3)))
+    u32::from_le_bytes([mem[p], mem[p + 1], mem[p + 2], mem[p + 3]])
 }
 
 // A load of one, two or four bytes: by its sign, and marked if one of them is.
@@ -78,7 +78,8 @@ pub fn fetch(mem: &[u8], marks: &[u8], p: usize) -> Tv
     }
 }
 
-// The low one, two and four bytes of a number, written.
+// The low one, two and four bytes of a number, written, one after another as the definition puts them. `to_le_bytes` and a copy to the part
+// was tried: the proof did not close, as the library says of the copy what the whole slice is, and not what each byte is set to.
 fn put_byte(mem: &mut [u8], p: usize, x: u32)
     requires { p < length mem.old }
     ensures { mem.new ≡ set mem.old p (x % 2 ^ 8) }

@@ -4,11 +4,9 @@ ghost use Rattle.word.specs.Shifts.{bit};
 ghost use Rattle.machine.specs.Marked.{both};
 ghost use Rattle.machine.specs.Psw.{PSW, sys, CELLS, bits, bits_at, put_bits, set_flags, set_z, condition, psw, put_psw_flags, mode, spread, gathered};
 
-use crate::cells::Cells;
+use crate::cells::{Cells, PSW as FLAGS};
 use machine::{Kind, Open, Tv};
 use word::{Computed, flags};
-
-const FLAGS: usize = 37;
 
 // The flags by their bits.
 const Z: u32 = 1;
@@ -108,7 +106,7 @@ impl Cells {
     {
         let j = flags::judge(k, self.nums[FLAGS], u32::from(self.marks[FLAGS]));
         Tv {
-            val: on(j.holds, 1),
+            val: u32::from(j.holds),
             mark: j.reads,
         }
     }

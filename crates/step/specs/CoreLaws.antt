@@ -6,13 +6,14 @@ use Rattle.machine.specs.declared.Open.{Open}
 use Rattle.machine.specs.declared.Refusal.{Refusal}
 use Rattle.machine.specs.Marked.{Cells}
 use Rattle.machine.specs.Psw.{EIPC, EIPSW, FEPC, FEPSW}
-use Rattle.machine.specs.Step.{Outcome, after, next, goto, plus, modes, cause, waits, exception, trap, illegal, return, reti, take_nmi, take_code}
+use Rattle.machine.specs.Step.{Went, Outcome, after, next, goto, plus, modes, cause, waits, exception, trap, illegal, return, reti, take_nmi, take_code}
 use Rattle.machine.specs.WellFormed.{WellFormed}
 use Rattle.machine.specs.InvariantLaws.{code_target, Ends, next-ends, reveal-ends, cond_ends}
 use Rattle.step.specs.declared.tasks.System.{System}
 use Rattle.step.specs.declared.tasks.System.TheVariants.{Trap, Halt, Reti, Di, Ei}
 use Rattle.step.specs.declared.unmarked.Packed.{Packed}
-use Rattle.step.specs.Tasks.{open_of, Fits, do_system}
+use Rattle.step.specs.declared.unmarked.Next.{Next}
+use Rattle.step.specs.Tasks.{open_of, Fits, went_of, do_system}
 
 abbrev pub packed : ℕ → ℕ → Packed
 packed p r = record { pc = p; rest = r }
@@ -145,6 +146,9 @@ pub modes_kept : (c : Packed) (x : ℕ) → (open_of c).id + 2 * (open_of c).ep 
     → modes (x / 2 ^ 7 % 2) (x / 2 ^ 6 % 2) (x / 2 ^ 5 % 2) (open_of c) ≡ open_of c
 modes_kept c x q =
     let b = three_bits (open_of c).id (open_of c).ep (open_of c).np x (omega arith) (omega arith) (omega arith) q in rw (b.0, b.1, b.2)
+
+pub settled : (o : Packed) (w : Went) (r : Result Next Refusal) {c m : Cells} {x : Outcome} → went_of o r ≡ w → after w c m ≡ x → after (went_of o r) c m ≡ x
+settled o w r h e = rw h e
 
 -- a well-formed state fits
 pub formed-fits : {o : Open} {c : Cells} → WellFormed o c → Fits o

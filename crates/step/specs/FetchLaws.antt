@@ -1,7 +1,8 @@
 -- A halfword fetched: an even address is as it is with its low bit cleared, and what is found there lies in memory.
 use Rattle.std.specs.Prelude.{◌≡◌, Option, Some, None, Result, Ok, Err, cond, true, false, Bool, ℕ, ◌+◌, ◌*◌, ◌/◌, ◌%◌, ◌^◌, ◌<◌, ◌≤◌, List, length, slice_index}
 use Rattle.std.specs.Prelude.{refl}
-use Rattle.std.proofs.Common.{arith}
+use Rattle.std.proofs.Common.{sym, subst, arith, le-leb}
+use Rattle.std.proofs.lemmas.Bool.{lt-leb}
 use Rattle.word.specs.Extend.{sum24}
 use Rattle.insn.specs.declared.Size.TheVariants.{Half}
 use Rattle.machine.specs.declared.Tv.{Tv}
@@ -12,10 +13,15 @@ use Rattle.machine.specs.Marked.{lift_all, Cells, both}
 use Rattle.machine.specs.Regions.{FETCH, find}
 use Rattle.machine.specs.Memory.{bytes_at, little_endian}
 use Rattle.machine.specs.InvariantLaws.{half_lt}
-use Rattle.insn.specs.Coding.{long, decode}
+use Rattle.insn.specs.Coding.{reg2_of, opcode_of, reg1_of, long, decode_fields, decode}
+use Rattle.insn.specs.declared.Decoded.{Decoded}
+use Rattle.insn.specs.declared.Decoded.TheVariants.{Undefined}
 use Rattle.machine.specs.Step.{Outcome, refuse, fetch, execute, completed, instruction}
 use Rattle.step.specs.StepLaws.{opened, leaked, placed, nowhere, fits}
-use Rattle.step.specs.Tasks.{Ready, fetched}
+use Rattle.state.specs.declared.map.Place.{Place}
+use Rattle.state.specs.Windows.{spot_of}
+use Rattle.step.specs.Tasks.{Ready, DecodedFields, fetched}
+use Rattle.step.specs.TaskLaws.{decoded-fields}
 
 cleared : (a b : ℕ) → a % 2 ≡ 0 → b ≡ a → a ≡ b / 2 * 2
 cleared a b h e = omega arith
@@ -70,3 +76,28 @@ module _ (h : ℕ) (map : List ℕ) (o : Open) (c m : Cells) where
 
   pub with_second : long h ≡ true → fetch (sum24 o.pc 2) map o c m (λ w. execute (decode h w) map o c m) ≡ completed h map o c m
   with_second e = rw e
+
+-- the same of a halfword h with these fields, and of what decodes from it
+module _ (h : ℕ) {reg2 opcode reg1 : ℕ} (r2 : reg2 ≡ reg2_of h) (code : opcode ≡ opcode_of h) (r1 : reg1 ≡ reg1_of h) (map : List ℕ) (o : Open) (c m : Cells) where
+  pub completed-long : 0b110000 ≤ opcode → fetch (sum24 o.pc 2) map o c m (λ w. execute (decode_fields reg2 opcode reg1 w) map o c m) ≡ completed h map o c m
+  unfolding decode
+  completed-long l = rw (le-leb 0b110000 (opcode_of h) (omega arith), r2, code, r1)
+
+  pub completed-short : {d : Decoded} → h < 2 ^ 16 → opcode < 0b110000 → d ≡ decode h 0 → DecodedFields d × (execute d map o c m ≡ completed h map o c m)
+  completed-short b l e = (rw e (decoded-fields h 0 b (omega arith)), rw (lt-leb 0b110000 (opcode_of h) (omega arith), e))
+
+-- a place that was found, or not
+module _ {p : Option Place} {s : Option ℕ} (e : spot_of p ≡ s) where
+  pub at_place : {q : Place} → p ≡ Some q → Some q.at ≡ s
+  at_place h = rw h at e
+
+  pub no_place : p ≡ None → None ≡ s
+  no_place h = rw h at e
+
+-- what is refused decodes to nothing
+pub undecoded : {d : Decoded} → d ≡ Undefined → DecodedFields d
+undecoded e = subst DecodedFields (sym e) tt
+
+-- a fetch that is refused
+pub not_fetched : (f : Result ℕ Refusal) {r : Refusal} {c m : Cells} (k : ℕ → Outcome) {x : Outcome} → f ≡ Err r → refuse r.answer r.place c m ≡ x → fetched f c m k ≡ x
+not_fetched f k h q = rw h q

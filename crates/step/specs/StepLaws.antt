@@ -14,6 +14,8 @@ use Rattle.machine.specs.Step.{Went, Outcome, after, next, refuse, reveal, place
 use Rattle.machine.specs.Regions.{find}
 use Rattle.machine.specs.Memory.{width, aligned}
 use Rattle.machine.specs.RegionLaws.{found-fits}
+use Rattle.state.specs.Windows.{Laid}
+use Rattle.state.specs.WindowLaws.{good_laid}
 use Rattle.step.specs.Tasks.{Ready}
 
 module _ (o : Open) (c m : Cells) {v b : Tv} (k : ℕ → Outcome) (e : b ≡ v) where
@@ -36,6 +38,10 @@ module _ (map : List ℕ) (right : ℕ) (answer : Answer) (c m : Cells) {a d : �
 
 pub on : {w : Went} {v o : Open} {c d m n : Cells} → w ≡ Ok v → v ≡ o → c ≡ d → m ≡ n → after w c m ≡ next o d n
 on h p q r = rw (h, p, q, r)
+
+-- the code can look for an address
+pub finds : {map mem marks : List ℕ} → Ready map mem marks → Laid map
+finds {map} {mem} r = good_laid map (length mem) r.small r.good
 
 pub fits : {map mem marks : List ℕ} → Ready map mem marks → (s : Size) (right a : ℕ) {x p : ℕ} {f : Option ℕ}
     → x ≡ aligned s a → f ≡ find map right x → f ≡ Some p → (p + width s ≤ length mem) × (length mem ≡ length marks)

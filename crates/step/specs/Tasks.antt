@@ -10,6 +10,8 @@ use Rattle.machine.specs.declared.Ran.{Ran}
 use Rattle.step.specs.declared.unmarked.Packed.{Packed}
 use Rattle.step.specs.declared.unmarked.Next.{Next}
 use Rattle.step.specs.declared.unmarked.Next.TheVariants.{Calm, Changed}
+use Rattle.step.specs.declared.control.Bank.{Bank}
+use Rattle.step.specs.declared.control.Bank.TheVariants.{Ei as OfEi, Fe as OfFe}
 use Rattle.step.specs.declared.run.Reached.{Reached}
 use Rattle.step.specs.declared.tasks.System.{System}
 use Rattle.step.specs.declared.tasks.System.TheVariants.{Trap, Halt, Reti, Di, Ei}
@@ -17,7 +19,7 @@ use Rattle.step.specs.declared.tasks.Task.{Task}
 use Rattle.step.specs.declared.tasks.Task.TheVariants.{Compute, Load, Store, Bitwise, Jmp, Bcond, Jarl, Setf, Ldsr, Stsr, System as OfSystem}
 use Rattle.state.specs.declared.map.Place.{Place}
 use Rattle.machine.specs.Marked.{Cells}
-use Rattle.machine.specs.Psw.{put_reg, condition}
+use Rattle.machine.specs.Psw.{EIPC, EIPSW, FEPC, FEPSW, put_reg, condition}
 use Rattle.machine.specs.Regions.{good_map}
 use Rattle.machine.specs.Operations.{operate}
 use Rattle.machine.specs.Run.{Ended, ended, run}
@@ -63,6 +65,15 @@ is_calm (Changed c) = false
 abbrev pub went_of : Packed → Result Next Refusal → Went
 went_of o (Ok n) = Ok (open_of (next_of o n))
 went_of o (Err r) = Err r
+
+-- the system registers of a bank
+abbrev pub pc_of : Bank → ℕ
+pc_of OfEi = EIPC
+pc_of OfFe = FEPC
+
+abbrev pub psw_of : Bank → ℕ
+psw_of OfEi = EIPSW
+psw_of OfFe = FEPSW
 
 -- how a step went that leads to o, unless it is refused
 abbrev pub went_on : Result ⊤ Refusal → Open → Went

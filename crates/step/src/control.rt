@@ -4,9 +4,9 @@ ghost use Rattle.machine.specs.declared.Answer.TheVariants.{Leak};
 ghost use Rattle.machine.specs.Marked.{plain, Cells, lift1, put};
 ghost use Rattle.machine.specs.Psw.{put_reg, condition, sys, bits, put_psw_flags};
 ghost use Rattle.machine.specs.Step.{after, reveal, next, plus, modes, save_pc, save_psw, jmp, bcond, jarl, ldsr, system, exception, trap, illegal, return, reti, nmi_accepted, code_accepted, take_nmi, take_code};
-ghost use Rattle.step.specs.Tasks.{open_of, Fits, next_of, went_of};
+ghost use Rattle.step.specs.Tasks.{open_of, Fits, next_of, went_of, pc_of, psw_of};
 
-use crate::unmarked::{Next, Packed, leak, reveal};
+use crate::unmarked::{Next, Packed, reveal};
 use machine::{Open, Refusal, Tv};
 use state::cells::Cells;
 use state::psw;
@@ -30,6 +30,33 @@ fn sys(n: u32) -> u32
     32 + n
 }
 
+// The saved PC and PSW of exceptions and maskable requests, and those of NMIs.
+#[derive(Clone, Copy)]
+enum Bank {
+    Ei,
+    Fe,
+}
+
+impl Bank {
+    fn pc(self) -> u32
+        ensures { (result ≡ pc_of self) × (result < 6) }
+    {
+        match self {
+            Bank::Ei => EIPC,
+            Bank::Fe => FEPC,
+        }
+    }
+
+    fn psw(self) -> u32
+        ensures { (result ≡ psw_of self) × (result < 6) }
+    {
+        match self {
+            Bank::Ei => EIPSW,
+            Bank::Fe => FEPSW,
+        }
+    }
+}
+
 // JMP.
 #[tactic(auto, unfolding(machine::specs::Step::jmp, machine::specs::Step::reveal))]
 pub fn jmp(reg1: u32, o: Packed, cells: &Cells) -> Result<Next, Refusal>
@@ -44,12 +71,8 @@ pub fn jmp(reg1: u32, o: Packed, cells: &Cells) -> Result<Next, Refusal>
 pub fn bcond(cond: u32, disp: u32, o: Packed, cells: &Cells) -> Result<Next, Refusal>
     ensures { (m : Cells) → after (went_of o result) cells.now m ≡ bcond cond disp (open_of o) cells.now m }
 {
-    // by hand, as `reveal` costs each branch some instructions here
-    let t = cells.condition(cond);
-    if t.mark {
-        return Err(leak(o.pc()));
-    }
-    if t.val == 0 {
+    let t = reveal(cells.condition(cond), o.pc())?;
+    if t == 0 {
         return Ok(o.plus(2));
     }
     Ok(o.plus(disp))
@@ -87,16 +110,15 @@ fn load_psw(v: Tv, o: Packed, cells: &mut Cells) -> Result<Next, Refusal>
     let n = o
         .unpack()
         .modes(w / psw::NP % 2, w / psw::EP % 2, w / psw::ID % 2);
-    Ok(Next::Changed(Packed::pack(n.plus(4))))
+    Ok(Next::to(n.plus(4)))
 }
 
-// LDSR to the saved PC in system register n.
-fn load_pc(n: u32, v: Tv, cells: &mut Cells)
-    requires { n < 6 }
-    ensures { cells.new ≡ put (sys n) (lift1 (λ w. w % 2 ^ 24) v) cells.old }
+// LDSR to the saved PC of a bank.
+fn load_pc(bank: Bank, v: Tv, cells: &mut Cells)
+    ensures { cells.new ≡ put (sys (pc_of bank)) (lift1 (λ w. w % 2 ^ 24) v) cells.old }
 {
     cells.put(
-        sys(n),
+        sys(bank.pc()),
         Tv {
             val: v.val % 0x1000000,
             mark: v.mark,
@@ -110,9 +132,9 @@ pub fn ldsr(reg2: u32, regid: u32, o: Packed, cells: &mut Cells) -> Result<Next,
 {
     let v = cells.reg(reg2);
     match regid {
-        EIPC => load_pc(EIPC, v, cells),
+        EIPC => load_pc(Bank::Ei, v, cells),
         EIPSW => cells.put_spread(sys(EIPSW), v),
-        FEPC => load_pc(FEPC, v, cells),
+        FEPC => load_pc(Bank::Fe, v, cells),
         FEPSW => cells.put_spread(sys(FEPSW), v),
         _ => return load_psw(v, o, cells),
     }
@@ -142,13 +164,12 @@ pub fn stsr(regid: u32, reg2: u32, o: Packed, cells: &mut Cells) -> Next
     o.plus(4)
 }
 
-// A PC and PSW to the saved registers pc and psw.
-fn save(value: u32, pc: u32, psw: u32, o: Open, cells: &mut Cells)
-    requires { (pc < 6) × (psw < 6) }
-    ensures { cells.new ≡ save_pc pc value (save_psw psw o cells.old) }
+// A PC and PSW to the saved registers of a bank.
+fn save(value: u32, bank: Bank, o: Open, cells: &mut Cells)
+    ensures { cells.new ≡ save_pc (pc_of bank) value (save_psw (psw_of bank) o cells.old) }
 {
-    cells.save_psw(sys(psw), o);
-    cells.put(sys(pc), Tv::plain(value));
+    cells.save_psw(sys(bank.psw()), o);
+    cells.put(sys(bank.pc()), Tv::plain(value));
 }
 
 #[tactic(auto, unfolding(machine::specs::Step::exception))]
@@ -157,7 +178,7 @@ fn exception(code: u32, target: u32, np: u32, o: Open, cells: &mut Cells) -> Ope
     ensures goes { (m : Cells) → next result cells.new m ≡ exception code target np o cells.old m }
     ensures fits { np < 2 → Fits o → Fits result }
 {
-    save(extend::sum24(o.pc, 4), EIPC, EIPSW, o, cells);
+    save(extend::sum24(o.pc, 4), Bank::Ei, o, cells);
     o.modes(np, 1, 1).eicc(code).goto(target)
 }
 
@@ -179,15 +200,14 @@ pub fn illegal(o: Open, cells: &mut Cells) -> Open
     exception(0x60, 0x60, o.np, o, cells)
 }
 
-// Back to the saved PC and PSW in the registers pc and psw.
-fn return_to(pc: u32, psw: u32, o: Open, cells: &mut Cells) -> Result<Open, Refusal>
-    requires { (pc < 6) × (psw < 6) }
-    ensures goes { (m : Cells) → after result cells.new m ≡ return pc psw o cells.old m }
+// Back to the saved PC and PSW of a bank.
+fn return_to(bank: Bank, o: Open, cells: &mut Cells) -> Result<Open, Refusal>
+    ensures goes { (m : Cells) → after result cells.new m ≡ return (pc_of bank) (psw_of bank) o cells.old m }
     ensures fits { Fits o → IfOk result Fits }
 {
-    let a = reveal(cells.get(sys(pc)), o.pc)?;
-    let b = reveal(cells.mode(sys(psw)), o.pc)?;
-    cells.restore_flags(sys(psw));
+    let a = reveal(cells.get(sys(bank.pc())), o.pc)?;
+    let b = reveal(cells.mode(sys(bank.psw())), o.pc)?;
+    cells.restore_flags(sys(bank.psw()));
     Ok(o.modes(b / 4 % 2, b / 2 % 2, b % 2).goto(a / 2 * 2))
 }
 
@@ -198,10 +218,10 @@ pub fn reti(o: Open, cells: &mut Cells) -> Result<Open, Refusal>
 {
     if o.ep == 0 {
         if o.np == 1 {
-            return return_to(FEPC, FEPSW, o, cells);
+            return return_to(Bank::Fe, o, cells);
         }
     }
-    return_to(EIPC, EIPSW, o, cells)
+    return_to(Bank::Ei, o, cells)
 }
 
 #[tactic(auto, unfolding(machine::specs::Step::nmi_accepted))]
@@ -224,7 +244,7 @@ pub fn take_nmi(o: Open, cells: &mut Cells) -> Open
     ensures goes { (m : Cells) → next result cells.new m ≡ take_nmi o cells.old m }
     ensures fits { Fits o → Fits result }
 {
-    save(o.pc, FEPC, FEPSW, o, cells);
+    save(o.pc, Bank::Fe, o, cells);
     o.waits(o.code, 0, 0).modes(1, 0, 1).fecc(0x10).goto(0x10)
 }
 
@@ -235,7 +255,7 @@ pub fn take_code(o: Open, cells: &mut Cells) -> Open
     ensures goes { (m : Cells) → next result cells.new m ≡ take_code o cells.old m }
     ensures fits { Fits o → Fits result }
 {
-    save(o.pc, EIPC, EIPSW, o, cells);
+    save(o.pc, Bank::Ei, o, cells);
     o.waits(0, o.nmi, 0)
         .modes(o.np, 0, 1)
         .eicc(o.code)

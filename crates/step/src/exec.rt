@@ -89,7 +89,7 @@ fn perform(
         Task::Stsr { regid, reg2 } => Ok(control::stsr(regid, reg2, o, cells)),
         Task::System(s) => {
             let n = system(s, o.unpack(), cells)?;
-            Ok(Next::Changed(Packed::pack(n)))
+            Ok(Next::to(n))
         }
     }
 }
@@ -114,7 +114,7 @@ fn execute(
         }
         Decoded::Illegal => {
             let n = control::illegal(o.unpack(), cells);
-            Ok(Next::Changed(Packed::pack(n)))
+            Ok(Next::to(n))
         }
         Decoded::Undefined => Err(Refusal {
             answer: Answer::Undefined,
@@ -165,11 +165,11 @@ pub fn attend(o: Packed, cells: &mut Cells) -> Result<Next, Refusal>
     let w = o.unpack();
     if control::nmi_accepted(w) {
         let n = control::take_nmi(w, cells);
-        return Ok(Next::Changed(Packed::pack(n)));
+        return Ok(Next::to(n));
     }
     if control::code_accepted(w) {
         let n = control::take_code(w, cells);
-        return Ok(Next::Changed(Packed::pack(n)));
+        return Ok(Next::to(n));
     }
     Err(Refusal {
         answer: Answer::Asleep,

@@ -49,19 +49,18 @@ fn instructions(
     requires { (from < budget) × Ready map.now mem.old marks.old × WellFormed (open_of start) cells.old × (acts (open_of start) ≡ false) }
     ensures { (goes_from budget map.now result cells.new (both mem.new marks.new) ≡ run (budget - from) from map.now (open_of start) cells.old (both mem.old marks.old)) × (IfNone result.stop ((from < result.steps) × (result.steps ≤ budget) × WellFormed (open_of result.core) cells.new × Bytes (both mem.new marks.new))) }
 {
-    // n counts steps, and a refused one does not count: no index of a loop
     let mut o = start;
-    let mut n = from;
-    let mut calm = true;
-    while calm {
-        if n == budget {
-            break;
-        }
+    for n in from..budget {
         match exec::instruction(map, o, cells, mem, marks) {
             Ok(next) => {
-                calm = next.is_calm();
                 o = o.after(next);
-                n += 1;
+                if !next.is_calm() {
+                    return Reached {
+                        stop: None,
+                        steps: n + 1,
+                        core: o,
+                    };
+                }
             }
             Err(stop) => {
                 return Reached {
@@ -74,13 +73,13 @@ fn instructions(
     }
     Reached {
         stop: None,
-        steps: n,
+        steps: budget,
         core: o,
     }
 }
 
 // The state is well-formed, and stays so: that is a theorem of the definition too (`run_well_formed`), and the clauses only pass it on. The
-// loop has no index either: `instructions` takes many steps at once.
+// loop has no index: `instructions` takes many steps at once.
 pub fn run(
     budget: u32,
     map: &Map,

@@ -26,9 +26,8 @@ fn refused(answer: Answer, place: u32) -> Result<(), Refusal>
     Err(Refusal { answer, place })
 }
 
-// A load of one size.
 #[tactic(auto, unfolding(machine::specs::Step::load, machine::specs::Step::reveal, machine::specs::Step::place))]
-fn load_of(
+pub fn load(
     size: Size,
     disp: u32,
     base: u32,
@@ -51,31 +50,8 @@ fn load_of(
     Ok(())
 }
 
-// Called by size, as is a store: the compiler makes a copy for each, and so asks for the size once.
-pub fn load(
-    size: Size,
-    disp: u32,
-    base: u32,
-    target: u32,
-    map: &Map,
-    o: Packed,
-    cells: &mut Cells,
-    mem: &[u8],
-    marks: &[u8],
-) -> Result<(), Refusal>
-    requires { Ready map.now mem.now marks.now }
-    ensures { (len : ℕ) → after (went_on result (plus len (open_of o))) cells.new (both mem.now marks.now) ≡ load size disp base target len map.now (open_of o) cells.old (both mem.now marks.now) }
-{
-    match size {
-        Size::Byte => load_of(Size::Byte, disp, base, target, map, o, cells, mem, marks),
-        Size::Half => load_of(Size::Half, disp, base, target, map, o, cells, mem, marks),
-        Size::Word => load_of(Size::Word, disp, base, target, map, o, cells, mem, marks),
-    }
-}
-
-// A store of one size.
 #[tactic(auto, unfolding(machine::specs::Step::store, machine::specs::Step::reveal, machine::specs::Step::place))]
-fn store_of(
+pub fn store(
     size: Size,
     disp: u32,
     base: u32,
@@ -96,27 +72,6 @@ fn store_of(
     };
     memory::store(size, mem, marks, p, cells.reg(source));
     Ok(())
-}
-
-pub fn store(
-    size: Size,
-    disp: u32,
-    base: u32,
-    source: u32,
-    map: &Map,
-    o: Packed,
-    cells: &Cells,
-    mem: &mut [u8],
-    marks: &mut [u8],
-) -> Result<(), Refusal>
-    requires { Ready map.now mem.old marks.old }
-    ensures { (len : ℕ) → after (went_on result (plus len (open_of o))) cells.now (both mem.new marks.new) ≡ store size disp base source len map.now (open_of o) cells.now (both mem.old marks.old) }
-{
-    match size {
-        Size::Byte => store_of(Size::Byte, disp, base, source, map, o, cells, mem, marks),
-        Size::Half => store_of(Size::Half, disp, base, source, map, o, cells, mem, marks),
-        Size::Word => store_of(Size::Word, disp, base, source, map, o, cells, mem, marks),
-    }
 }
 
 // TST1 needs no right to write.

@@ -138,6 +138,14 @@ impl Packed {
 }
 
 impl Next {
+    // More than PC has changed.
+    pub fn to(o: Open) -> Next
+        requires { Fits o }
+        ensures { (c : Packed) → open_of (next_of c result) ≡ o }
+    {
+        Next::Changed(Packed::pack(o))
+    }
+
     pub fn is_calm(self) -> bool
         ensures { result ≡ is_calm self }
     {

@@ -7,6 +7,7 @@ ghost use Rattle.v850.specs.Block.{bytes_of, bytes_of_word, word_at, words_from,
 ghost use Rattle.v850.specs.BlockLaws.{Marks, sys_marks};
 
 use machine::Open;
+use state::cells;
 use state::cells::{CELLS, Cells};
 use state::map::Map;
 use std::array;
@@ -50,19 +51,6 @@ pub const REPORT: usize = 8;
 pub const STEPS: usize = 0;
 
 pub const PLACE: usize = 1;
-
-// Which cell is which. Cells 0 to 31 are r0 to r31.
-const CELL_EIPC: usize = 32;
-
-const CELL_EIPSW: usize = 33;
-
-const CELL_FEPC: usize = 34;
-
-const CELL_FEPSW: usize = 35;
-
-const CELL_ECR: usize = 36;
-
-const CELL_PSW: usize = 37;
 
 // PSW after reset: ID is set.
 const RESET_PSW: u32 = 0x20;
@@ -109,8 +97,13 @@ fn sys_marks(tags: &[u8; CELLS]) -> u32
     requires { Marks tags.now }
     ensures { result ≡ sys_marks tags.now }
 {
-    let pcs = tags[CELL_EIPC] + 2 * tags[CELL_FEPC];
-    u32::from_le_bytes([tags[CELL_PSW] % 32, tags[CELL_EIPSW], tags[CELL_FEPSW], pcs])
+    let pcs = tags[cells::EIPC] + 2 * tags[cells::FEPC];
+    u32::from_le_bytes([
+        tags[cells::PSW] % 32,
+        tags[cells::EIPSW],
+        tags[cells::FEPSW],
+        pcs,
+    ])
 }
 
 // The words of a block. Taken apart they are the map, what is never marked, and the cells' numbers and marks.
@@ -171,12 +164,12 @@ impl Words {
         let ws = &self.0;
         let mut nums = [0; CELLS];
         nums[..REGS].copy_from_slice(&ws[..REGS]);
-        nums[CELL_EIPC] = ws[EIPC];
-        nums[CELL_EIPSW] = ws[EIPSW];
-        nums[CELL_FEPC] = ws[FEPC];
-        nums[CELL_FEPSW] = ws[FEPSW];
-        nums[CELL_ECR] = 0;
-        nums[CELL_PSW] = ws[PSW] % 32;
+        nums[cells::EIPC] = ws[EIPC];
+        nums[cells::EIPSW] = ws[EIPSW];
+        nums[cells::FEPC] = ws[FEPC];
+        nums[cells::FEPSW] = ws[FEPSW];
+        nums[cells::ECR] = 0;
+        nums[cells::PSW] = ws[PSW] % 32;
         nums
     }
 
@@ -190,12 +183,12 @@ impl Words {
         for (n, tag) in tags[..REGS].iter_mut().enumerate() {
             *tag = ((regs >> n) % 2) as u8;
         }
-        tags[CELL_EIPC] = pcs % 2;
-        tags[CELL_EIPSW] = eipsw;
-        tags[CELL_FEPC] = pcs / 2 % 2;
-        tags[CELL_FEPSW] = fepsw;
-        tags[CELL_ECR] = 0;
-        tags[CELL_PSW] = psw % 32;
+        tags[cells::EIPC] = pcs % 2;
+        tags[cells::EIPSW] = eipsw;
+        tags[cells::FEPC] = pcs / 2 % 2;
+        tags[cells::FEPSW] = fepsw;
+        tags[cells::ECR] = 0;
+        tags[cells::PSW] = psw % 32;
         tags
     }
 
@@ -217,10 +210,10 @@ impl Words {
         ws[..REGS].copy_from_slice(&nums[..REGS]);
         ws[PC] = o.pc;
         ws[PSW] = cells.psw(o);
-        ws[EIPC] = nums[CELL_EIPC];
-        ws[EIPSW] = nums[CELL_EIPSW];
-        ws[FEPC] = nums[CELL_FEPC];
-        ws[FEPSW] = nums[CELL_FEPSW];
+        ws[EIPC] = nums[cells::EIPC];
+        ws[EIPSW] = nums[cells::EIPSW];
+        ws[FEPC] = nums[cells::FEPC];
+        ws[FEPSW] = nums[cells::FEPSW];
         ws[ECR] = o.ecr;
         ws[CODE] = o.code;
         ws[WAITS] = o.halted + 0x100 * o.nmi;
