@@ -2,16 +2,17 @@
 use mathlib.Core.Path.{◌≡◌, refl, sym, ap, ◌∙◌}
 use mathlib.Core.Bool.{Bool, true, false, cond}
 use mathlib.Core.List.{List}
-use Prim.Native.Nat.{ℕ, zero, suc, ◌+◌, ◌-◌, ◌/◌, ◌%◌, ◌^◌, ◌≤◌, ◌<◌}
+use Prim.Native.Nat.{ℕ, zero, suc, ◌+◌, ◌-◌, ◌*◌, ◌/◌, ◌%◌, ◌^◌, ◌≤◌, ◌<◌}
 use native.Mathlib.Omega.{arith}
 use lib.Dec.{eqb, ltb}
+use lib.ListN.{get_or}
 use borrow.Author.Tests.{ltb-true, ltb-false}
 use Rattle.word.specs.Sums.{difference}
 use Rattle.std.specs.Prelude.{Some, None}
 use Rattle.machine.specs.Regions.{base, size, offset, rights, covers, find_from, find}
 use Rattle.machine.specs.RegionLaws.{covered}
 use Rattle.state.specs.declared.map.Place.{Place}
-use Rattle.state.specs.Windows.{seen, Laid, Onward}
+use Rattle.state.specs.Windows.{seen, Sizes, Laid, Onward}
 use Rattle.state.specs.WindowLaws.{inside, outside}
 
 seen-small : (map : List ℕ) (n k : ℕ) → seen map n k ≤ size map k
@@ -20,6 +21,10 @@ seen-small map n k = go (eqb (rights map k / 2 ^ n % 2) 1)
     go : (t : Bool) → cond t (size map k) 0 ≤ size map k
     go true = omega arith
     go false = omega arith
+
+-- what a right sees of region k lies within the largest memory
+pub seen-places : {map sizes : List ℕ} {n : ℕ} → (n < 3) × Sizes map sizes × Laid map → (k : ℕ) → k < 4 → offset map k + get_or sizes (4 * n + k) 0 ≤ 2 ^ 16
+seen-places {map} {sizes} {n} pre k h = omega (arith, pre.1.each n k pre.0 h, pre.2.places k h, seen-small map n k)
 
 only : (map : List ℕ) → Laid map → (right a k : ℕ) → k < 4 → covers map right a k ≡ true → find map right a ≡ Some (offset map k + (a - base map k))
 unfolding find_from
