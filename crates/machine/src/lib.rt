@@ -1,7 +1,7 @@
 // The machine: its state, one step of it, and a run.
 #![tactic(auto)]
 
-mod numbers;
+pub mod numbers;
 mod operations;
 mod unmarked;
 mod values;
