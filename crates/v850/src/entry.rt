@@ -7,32 +7,14 @@ ghost use Rattle.v850.specs.Handed.{view_from, IsPart, on_by};
 
 use crate::block::{self, BYTES, REPORT, Words};
 use machine::Answer;
+pub use machine::numbers::{
+    ASLEEP, DONE, LEAK, MAP, NO_FETCH, NO_READ, NO_WRITE, SIZE, STATE, UNDEFINED,
+};
 use state::map::Map;
 use step::run;
 
 // The largest memory.
 const MEMORY: usize = 65536;
-
-// The answers by number, which is how C and the bench read them (`include/v850.h`); inside, an answer is an `Answer`.
-pub const DONE: u32 = 0;
-
-pub const SIZE: u32 = 1;
-
-pub const MAP: u32 = 2;
-
-pub const STATE: u32 = 3;
-
-pub const ASLEEP: u32 = 4;
-
-pub const NO_FETCH: u32 = 5;
-
-pub const UNDEFINED: u32 = 6;
-
-pub const LEAK: u32 = 7;
-
-pub const NO_READ: u32 = 8;
-
-pub const NO_WRITE: u32 = 9;
 
 // SIZE: which sizes are right.
 fn good_sizes(block: &[u8], memory: &[u8], marks: &[u8], report: &[u8]) -> bool
