@@ -139,7 +139,9 @@ pub fn long(reg2: u32, opcode: u32, reg1: u32, w: u32) -> Decoded
             reg2,
         ),
         0b111011 => half_or_word(Way::Store, reg1, reg2, w),
-        0b111100 | 0b111101 => jarl(reg2, opcode, reg1, w),
+        // an arm each: with one for both a step takes up to 0.9 instructions more (docs/SPEED.md)
+        0b111100 => jarl(reg2, 0b111100, reg1, w),
+        0b111101 => jarl(reg2, 0b111101, reg1, w),
         0b111110 => Decoded::Valid(Insn::Bit {
             op: bit_op(reg2 / 8),
             bit: reg2 % 8,

@@ -6,7 +6,7 @@ ghost use Rattle.machine.specs.Psw.{put_reg, condition, sys, bits, put_psw_flags
 ghost use Rattle.machine.specs.Step.{after, reveal, next, plus, modes, save_pc, save_psw, jmp, bcond, jarl, ldsr, system, exception, trap, illegal, return, reti, nmi_accepted, code_accepted, take_nmi, take_code};
 ghost use Rattle.step.specs.Tasks.{open_of, Fits, next_of, went_of, pc_of, psw_of};
 
-use crate::unmarked::{Next, Packed, reveal};
+use crate::unmarked::{Next, Packed, leak, reveal};
 use machine::{Open, Refusal, Tv};
 use state::cells::Cells;
 use state::psw;
@@ -66,13 +66,17 @@ pub fn jmp(reg1: u32, o: Packed, cells: &Cells) -> Result<Next, Refusal>
     Ok(o.goto(a % 0x1000000 / 2 * 2))
 }
 
-// Bcond: the displacement counts from the instruction's own address.
+// Bcond: the displacement counts from the instruction's own address. The mark is tested here and not by `reveal`: with that the steps of
+// our images take up to 2.6 instructions more, and more than README.md says (docs/SPEED.md).
 #[tactic(auto, unfolding(machine::specs::Step::bcond, machine::specs::Step::reveal))]
 pub fn bcond(cond: u32, disp: u32, o: Packed, cells: &Cells) -> Result<Next, Refusal>
     ensures { (m : Cells) → after (went_of o result) cells.now m ≡ bcond cond disp (open_of o) cells.now m }
 {
-    let t = reveal(cells.condition(cond), o.pc())?;
-    if t == 0 {
+    let t = cells.condition(cond);
+    if t.mark {
+        return Err(leak(o.pc()));
+    }
+    if t.val == 0 {
         return Ok(o.plus(2));
     }
     Ok(o.plus(disp))

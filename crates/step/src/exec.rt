@@ -1,5 +1,6 @@
 // One step: what comes before the next instruction; or fetch, decode, and the instruction's task.
-ghost use Rattle.std.specs.Prelude.{◌≡◌, IfOk, ℕ, ◌%◌, true, List};
+ghost use Rattle.std.specs.Prelude.{◌≡◌, IfOk, ℕ, ◌%◌, ◌^◌, ◌<◌, ◌≤◌, true, List};
+ghost use Rattle.insn.specs.Coding.{reg2_of, opcode_of, reg1_of, decode};
 ghost use Rattle.machine.specs.Marked.{Cells, both};
 ghost use Rattle.machine.specs.Step.{after, execute, instruction, step};
 ghost use Rattle.step.specs.Tasks.{open_of, Fits, went_of, acts, do_system, do_task, SystemFields, TaskFields, DecodedFields, Ready};
@@ -123,6 +124,23 @@ fn execute(
     }
 }
 
+// 011000-101111: four bits say the form, but for SLD.W and SST.W, which share them, and the opcode's two others are the operand's. Each arm
+// calls with the four opcodes that begin alike, so that the compiler keeps of `short` what they ask for.
+fn four_bits(h: u32, reg2: u32, opcode: u32, reg1: u32) -> Decoded
+    requires { (h < 2 ^ 16) × (reg2 ≡ reg2_of h) × (opcode ≡ opcode_of h) × (reg1 ≡ reg1_of h) × (0b011000 ≤ opcode) × (opcode ≤ 0b101111) }
+    ensures { (w : ℕ) → result ≡ decode h w }
+{
+    let low = opcode % 4;
+    match opcode / 4 {
+        0b0110 => decode::short(h, reg2, 0b011000 + low, reg1),
+        0b0111 => decode::short(h, reg2, 0b011100 + low, reg1),
+        0b1000 => decode::short(h, reg2, 0b100000 + low, reg1),
+        0b1001 => decode::short(h, reg2, 0b100100 + low, reg1),
+        0b1010 => decode::short(h, reg2, 0b101000 + low, reg1),
+        _ => decode::short(h, reg2, 0b101100 + low, reg1),
+    }
+}
+
 // The instruction at PC.
 pub fn instruction(
     map: &Map,
@@ -139,11 +157,13 @@ pub fn instruction(
     let reg2 = decode::reg2_of(first);
     let opcode = decode::opcode_of(first);
     let reg1 = decode::reg1_of(first);
-    let d = if decode::is_long(first as u16) {
-        let second = fetch::second(map, pc, p, &*mem, &*marks)?;
-        decode::long(reg2, opcode, reg1, second)
-    } else {
-        decode::short(first, reg2, opcode, reg1)
+    let d = match opcode {
+        0b000000..=0b010111 => decode::operation(reg2, opcode, reg1),
+        0b011000..=0b101111 => four_bits(first, reg2, opcode, reg1),
+        _ => {
+            let second = fetch::second(map, pc, p, &*mem, &*marks)?;
+            decode::long(reg2, opcode, reg1, second)
+        }
     };
     execute(d, map, o, cells, mem, marks)
 }

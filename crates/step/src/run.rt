@@ -36,7 +36,7 @@ fn ended(r: Reached) -> Ran
 }
 
 // Instructions one after the other, from step `from` on. After a calm one nothing can have come up, so that none asks before the next;
-// the first one that is not calm is the last here.
+// after another it asks, and leaves where something does come before the next instruction.
 fn instructions(
     budget: u32,
     from: u32,
@@ -55,11 +55,13 @@ fn instructions(
             Ok(next) => {
                 o = o.after(next);
                 if !next.is_calm() {
-                    return Reached {
-                        stop: None,
-                        steps: n + 1,
-                        core: o,
-                    };
+                    if exec::acts(o) {
+                        return Reached {
+                            stop: None,
+                            steps: n + 1,
+                            core: o,
+                        };
+                    }
                 }
             }
             Err(stop) => {

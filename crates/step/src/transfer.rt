@@ -27,7 +27,7 @@ fn refused(answer: Answer, place: u32) -> Result<(), Refusal>
 }
 
 #[tactic(auto, unfolding(machine::specs::Step::load, machine::specs::Step::reveal, machine::specs::Step::place))]
-pub fn load(
+fn load_of(
     size: Size,
     disp: u32,
     base: u32,
@@ -50,8 +50,30 @@ pub fn load(
     Ok(())
 }
 
+// Each size by itself, here and in `store`: the compiler writes the body out three times, with no test of the size in it.
+pub fn load(
+    size: Size,
+    disp: u32,
+    base: u32,
+    target: u32,
+    map: &Map,
+    o: Packed,
+    cells: &mut Cells,
+    mem: &[u8],
+    marks: &[u8],
+) -> Result<(), Refusal>
+    requires { Ready map.now mem.now marks.now }
+    ensures { (len : ℕ) → after (went_on result (plus len (open_of o))) cells.new (both mem.now marks.now) ≡ load size disp base target len map.now (open_of o) cells.old (both mem.now marks.now) }
+{
+    match size {
+        Size::Byte => load_of(Size::Byte, disp, base, target, map, o, cells, mem, marks),
+        Size::Half => load_of(Size::Half, disp, base, target, map, o, cells, mem, marks),
+        Size::Word => load_of(Size::Word, disp, base, target, map, o, cells, mem, marks),
+    }
+}
+
 #[tactic(auto, unfolding(machine::specs::Step::store, machine::specs::Step::reveal, machine::specs::Step::place))]
-pub fn store(
+fn store_of(
     size: Size,
     disp: u32,
     base: u32,
@@ -72,6 +94,27 @@ pub fn store(
     };
     memory::store(size, mem, marks, p, cells.reg(source));
     Ok(())
+}
+
+pub fn store(
+    size: Size,
+    disp: u32,
+    base: u32,
+    source: u32,
+    map: &Map,
+    o: Packed,
+    cells: &Cells,
+    mem: &mut [u8],
+    marks: &mut [u8],
+) -> Result<(), Refusal>
+    requires { Ready map.now mem.old marks.old }
+    ensures { (len : ℕ) → after (went_on result (plus len (open_of o))) cells.now (both mem.new marks.new) ≡ store size disp base source len map.now (open_of o) cells.now (both mem.old marks.old) }
+{
+    match size {
+        Size::Byte => store_of(Size::Byte, disp, base, source, map, o, cells, mem, marks),
+        Size::Half => store_of(Size::Half, disp, base, source, map, o, cells, mem, marks),
+        Size::Word => store_of(Size::Word, disp, base, source, map, o, cells, mem, marks),
+    }
 }
 
 // TST1 needs no right to write.

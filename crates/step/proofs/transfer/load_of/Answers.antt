@@ -1,6 +1,6 @@
 use Rattle.word.specs.Extend.{sum24}
 use Rattle.step.specs.StepLaws.{fits}
-use Rattle.step.proofs.transfer.load.Goals as goal
+use Rattle.step.proofs.transfer.load_of.Goals as goal
 
 pub load-requires : goal.load-requires
 load-requires c = fits c.requires c.args.size 1 (sum24 c.in_ok-b.b c.args.disp) c.address-a.ensures c.find.ensures c.in-Some.is
