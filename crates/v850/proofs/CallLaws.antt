@@ -1,7 +1,7 @@
 -- How a call ends, test by test: what the code knows at each of its returns is what the definition says.
-use Rattle.std.specs.Prelude.{◌≡◌, refl, Bool, true, false, cond, List, [], ◌≢◌, ℕ, ◌-◌, ◌^◌, ◌≤◌, ◌<◌, Option, Some, None, MatchOption, Result, Ok, Err, eqb, length, take, drop, replicate}
+use Rattle.std.specs.Prelude.{◌≡◌, refl, Bool, true, false, cond, ◌⊎◌, List, [], ◌≢◌, ℕ, ◌-◌, ◌^◌, ◌≤◌, ◌<◌, Option, Some, None, MatchOption, Result, Ok, Err, eqb, length, take, drop, replicate}
 use Rattle.std.specs.Option.{unwrap_or}
-use Rattle.std.proofs.Common.{sym, ap, ◌∙◌, subst, eq-eqb, ne_eqb, le-leb, eqb-true}
+use Rattle.std.proofs.Common.{sym, ap, ◌∙◌, subst, inl, inr, eq-eqb, ne_eqb, le-leb, eqb-true}
 use Rattle.std.proofs.lemmas.Bool.{lt-leb}
 use Rattle.word.specs.Tests.{both_true}
 use Rattle.machine.specs.declared.Answer.{Answer}
@@ -128,6 +128,12 @@ refusal_left {memory = memory} {marks = marks} {a = a} budget (bad_map p q e) n 
 refusal_left {memory = memory} {marks = marks} {a = a} budget (bad_state p q r e) n z =
     let s : a ≡ State = cc in rw s (refused_state _ _ _ _ budget p q r (z ∙ ap (λ (k : ℕ). replicate k 0) (sizes_of _ memory marks _ p).1))
 refusal_left budget (passing p e) n z = cc
+
+pub map_or_state : {block memory marks report : List ℕ} {a : Answer} → Outcome block memory marks report (Err a) → (a ≡ Size → ⊥) → (a ≡ Map) ⊎ (a ≡ State)
+map_or_state (bad_sizes p e) n = absurd (n cc)
+map_or_state (bad_map p q e) n = inl cc
+map_or_state (bad_state p q r e) n = inr cc
+map_or_state (passing p e) n = cc
 
 -- past the checks the run begins, with the parts of the block
 pub started : {block memory marks report map : List ℕ} {cells : Cells} {ws : Words} {core : Open} → Outcome block memory marks report (Ok (ws, map))

@@ -1,7 +1,7 @@
 -- What the checks answered is what the definition's tests ask (`started`, `size_left`, `refusal_left`).
-use Rattle.std.proofs.Common.{◌∙◌, sym, ap, rules, Err}
+use Rattle.std.proofs.Common.{◌∙◌, sym, ap, rules, Err, inl, inr}
 use Rattle.machine.specs.declared.Answer.{Answer}
-use Rattle.v850.proofs.CallLaws.{sizes_of, outcome, passed, size_left, refusal_left, started, starts_ready, starts_formed, ends-formed, ends-called}
+use Rattle.v850.proofs.CallLaws.{sizes_of, outcome, passed, size_left, refusal_left, map_or_state, started, starts_ready, starts_formed, ends-formed, ends-called}
 use Rattle.v850.proofs.entry.v850_run.Goals as goal
 
 pub run-e-requires : goal.run-e-requires
@@ -30,4 +30,6 @@ returns-in-Err-Size c = size_left _ (outcome (ap (λ (a : Answer). Err a) (sym c
 
 pub returns-in-Err : goal.returns-in-Err
 returns-in-Err c =
-    rw c.from-in-Err.ensures (refusal_left _ (outcome (sym c.in-Err.is ∙ c.checked.ensures)) (λ e. search rules) (c.fill.ensures.after (λ y k. search rules)))
+    let told = outcome (sym c.in-Err.is ∙ c.checked.ensures) in
+    let whole = refusal_left c.args.budget told (λ e. search rules) (c.fill.ensures.after (λ y k. search rules)) in
+    elim (map_or_state told (λ e. search rules)) [ inl e ↦ rw (c.from-in-Err.ensures, e) (rw e at whole) | inr e ↦ rw (c.from-in-Err.ensures, e) (rw e at whole) ]
